@@ -1,0 +1,5 @@
+pub mod Ranges
+pub mod Bytes
+pub mod Deeds
+pub mod Calls
+pub mod Traces

@@ -1,0 +1,5 @@
+pub mod Index
+pub mod Bools
+pub mod Falling
+pub mod Empty
+pub mod Facts

@@ -1,0 +1,5 @@
+//! Examples of sheets and actions, good and garbled.
+#[cfg(test)]
+mod actions;
+#[cfg(test)]
+mod sheets;

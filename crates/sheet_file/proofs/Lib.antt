@@ -1,0 +1,4 @@
+pub mod Zeros
+pub mod Fills
+pub mod Verdicts
+pub mod Empties

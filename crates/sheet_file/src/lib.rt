@@ -1,0 +1,4 @@
+//! The byte format of a sheet.
+mod codes;
+pub mod load;
+mod rows;
