@@ -26,6 +26,10 @@ first d = d .first % 16
 abbrev pub second : Deed → ℕ
 second d = d .second % 16
 
+-- the deed that four numbers are read as, each within its range
+abbrev pub reading : ℕ → ℕ → ℕ → ℕ → Deed
+reading a s f g = record { address = a % 8; signal = s % 32; first = f % 16; second = g % 16 }
+
 abbrev pub deed-of : List ℕ → Deed
 deed-of b = record { address = getD b 0 0; signal = getD b 1 0; first = getD b 2 0; second = getD b 3 0 }
 

@@ -5,7 +5,7 @@ use crate::kind::Kind;
 use crate::partner::Partner;
 use fault::fault::Fault;
 ghost use mathlib.Core.Path.{_≡_};
-ghost use Rattle.action.specs.Deeds.{deed-from, address as address-of, partner as partner-of, signal as signal-of, first as first-of, second as second-of};
+ghost use Rattle.action.specs.Deeds.{deed-from, reading as reading-of, address as address-of, partner as partner-of, signal as signal-of, first as first-of, second as second-of};
 
 /// The highest byte that says whom a deed is exchanged with.
 pub const HIGHEST_ADDRESS: u8 = 7;
@@ -43,6 +43,18 @@ impl Deed {
             first: bytes[2],
             second: bytes[3],
         })
+    }
+
+    /// The deed that four numbers are read as, each within its range.
+    pub fn reading(address: u8, signal: u8, first: u8, second: u8) -> Deed
+        ensures { λ r. ⌜ r ≡ reading-of address signal first second ⌝ }
+    {
+        Deed {
+            address: address % 8,
+            signal: signal % 32,
+            first: first % 16,
+            second: second % 16,
+        }
     }
 
     /// What a step matches of the partner.

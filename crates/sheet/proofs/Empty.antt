@@ -1,7 +1,7 @@
 -- The marks of the empty runs are those that the meaning has.
 use mathlib.Core.Path.{_≡_, refl, sym, _∙_, ap, subst}
 use mathlib.Core.List.{List, [], _∷_, _++_}
-use mathlib.Core.Bool.{Bool, true, false, _||_, _&&_, cond}
+use mathlib.Core.Bool.{Bool, true, false, _||_, cond}
 use mathlib.Core.Logic.{_⊎_, inl, inr}
 use Prim.Native.Nat.{ℕ, zero, suc}
 use native.Mathlib.Omega.{arith}
@@ -16,7 +16,8 @@ use Rattle.sheet.specs.Meaning.{Runs, Never, Then, Rounds, stop, round, Of}
 use Rattle.sheet.specs.Empties.{has, nothing, both, must, any, empty-of}
 use Rattle.sheet.specs.Forbid.{fragment, root}
 use Rattle.sheet.specs.Laws.{Empty-means, Empty-rule-means}
-use Rattle.sheet.proofs.Bools.{or-l, or-r, or-out, and-in, and-out, T-true}
+use Rattle.sheet.proofs.Bools.{T-true}
+use Rattle.sheet.proofs.Both.{both-in, both-out, either-l, either-r, either-out, must-in, must-out}
 
 cons-nil : {X : Type 0} (x : X) (l : List X) → x ∷ l ≡ [] → ⊥
 cons-nil x l e = let z : _≡_ {A = ℕ} 0 1 = cc in omega arith
@@ -28,35 +29,6 @@ left-nil (x ∷ a) b e = absurd (cons-nil x (a ++ b) e)
 right-nil : {X : Type 0} (a b : List X) → a ++ b ≡ [] → b ≡ []
 right-nil [] b e = e
 right-nil (x ∷ a) b e = absurd (cons-nil x (a ++ b) e)
-
-both-in : (a b : Marks) (m n : Bool) → T (has a m) → T (has b n) → T (has (both a b) (m || n))
-both-in a b false false x y = and-in _ _ x y
-both-in a b false true x y = or-r (a .marked && (b .plain || b .marked)) _ (and-in _ _ x y)
-both-in a b true false x y = or-l _ _ (and-in (a .marked) _ x (or-l _ _ y))
-both-in a b true true x y = or-l _ _ (and-in (a .marked) _ x (or-r (b .plain) _ y))
-
-record Split (a b : Marks) (k : Bool) : Type 0 where
-  m : Bool
-  n : Bool
-  left : T (has a m)
-  right : T (has b n)
-  is : k ≡ m || n
-
-both-out : (a b : Marks) (k : Bool) → T (has (both a b) k) → Split a b k
-both-out a b false h = let p = and-out (a .plain) _ h in record { m = false; n = false; left = p .0; right = p .1; is = refl }
-both-out a b true h = elim (or-out (a .marked && (b .plain || b .marked)) _ h) [
-  | inl y ↦
-      let p = and-out (a .marked) _ y in
-      elim (or-out (b .plain) _ (p .1)) [
-        | inl z ↦ record { m = true; n = false; left = p .0; right = z; is = refl }
-        | inr z ↦ record { m = true; n = true; left = p .0; right = z; is = refl }
-      ]
-  | inr y ↦ let p = and-out (a .plain) _ y in record { m = false; n = true; left = p .0; right = p .1; is = refl }
-]
-
-must-in : (a : Marks) (n : Bool) → T (has a n) → T (has (must a) true)
-must-in a false h = or-l _ _ h
-must-in a true h = or-r (a .plain) _ h
 
 any-in : (a : Marks) (m n : Bool) → T (has a m) → T (has (any a) n) → T (has (any a) (m || n))
 any-in a false n h g = g
@@ -73,13 +45,11 @@ shows-of (Fragment.Step s) N R g v false h = absurd h
 shows-of (Fragment.Step s) N R g v true h = absurd h
 shows-of (Seq i j) N R g v m h =
     let a = both-out (N i) (N j) m h in
-    record { front = []; back = []; between = v; front-mark = a .m; back-mark = a .n; left = g i v (a .m) (a .left); right = g j v (a .n) (a .right); deeds = refl; mark = a .is }
-shows-of (Alt i j) N R g v false h = elim (or-out (N i .plain) (N j .plain) h) [ inl y ↦ inl (g i v false y) | inr y ↦ inr (g j v false y) ]
-shows-of (Alt i j) N R g v true h = elim (or-out (N i .marked) (N j .marked) h) [ inl y ↦ inl (g i v true y) | inr y ↦ inr (g j v true y) ]
+    record { front = []; back = []; between = v; front-mark = a .m; back-mark = a .n; left = g i v (a .m) (a .left); right = g j v (a .n) (a .right); deeds = refl; mark = sym (a .is) }
+shows-of (Alt i j) N R g v m h = elim (either-out (N i) (N j) m h) [ inl y ↦ inl (g i v m y) | inr y ↦ inr (g j v m y) ]
 shows-of (Loop i) N R g v false h = stop
 shows-of (Loop i) N R g v true h = round (g i v true h) stop
-shows-of (Neg i) N R g v false h = absurd h
-shows-of (Neg i) N R g v true h = elim (or-out (N i .plain) (N i .marked) h) [ inl y ↦ ((false, g i v false y), refl) | inr y ↦ ((true, g i v true y), refl) ]
+shows-of (Neg i) N R g v m h = let a = must-out (N i) m h in ((a .0, g i v (a .0) (a .1)), a .2)
 
 -- the mark of each run over the empty list is there
 abbrev Covers : Marks → Runs → Type 0
@@ -100,10 +70,8 @@ covers-of (Seq i j) N R g v u l m x e =
     (both-in (N i) (N j) (x .front-mark) (x .back-mark)
     (g i v (x .between) (x .front) (x .front-mark) (x .left) (left-nil (x .front) (x .back) f))
     (g j (x .between) u (x .back) (x .back-mark) (x .right) (right-nil (x .front) (x .back) f)))
-covers-of (Alt i j) N R g v u l false (inl x) e = or-l _ _ (g i v u l false x e)
-covers-of (Alt i j) N R g v u l true (inl x) e = or-l _ _ (g i v u l true x e)
-covers-of (Alt i j) N R g v u l false (inr x) e = or-r (N i .plain) _ (g j v u l false x e)
-covers-of (Alt i j) N R g v u l true (inr x) e = or-r (N i .marked) _ (g j v u l true x e)
+covers-of (Alt i j) N R g v u l m (inl x) e = either-l (N i) (N j) m (g i v u l m x e)
+covers-of (Alt i j) N R g v u l m (inr x) e = either-r (N i) (N j) m (g j v u l m x e)
 covers-of (Loop i) N R g v u l m x e = covers-rounds (N i) (R i) (g i) x e
 covers-of (Neg i) N R g v u l m ((n, x), f) e = subst (λ (k : Bool). T (has (must (N i)) k)) (sym f) (must-in (N i) n (g i v u l n x e))
 

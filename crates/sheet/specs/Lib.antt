@@ -5,3 +5,4 @@ pub mod Empties
 pub mod Rules
 pub mod Laws
 pub mod Judged
+pub mod Sound

@@ -1,15 +1,13 @@
 //! Judges the rule sheet `rule.sht` in the current folder, or in each folder that is named, and prints an account of it.
-use file_input::read_file;
+use file_input::files::read_rule;
+use file_input::folders::folders;
+use file_input::tell::tell_folder;
+use file_input::tell::tell_refusal;
 use outline::outline::outline;
 use outline::words::FragmentWords;
 use outline::words::InWords;
 use sheet::sheet::Sheet;
-use sheet_file::load::load_sheet;
-use std::env;
 use std::error::AnyError;
-
-/// The largest sheet has 4 + 9 × 64 bytes; one more shows that a file is larger.
-const ENOUGH: usize = 581;
 
 fn show(rt: &LibcRuntime, sheet: &Sheet) -> Result<(), AnyError> {
     let fragments = sheet.diagram.count;
@@ -32,30 +30,18 @@ fn show(rt: &LibcRuntime, sheet: &Sheet) -> Result<(), AnyError> {
     Ok(())
 }
 
-fn judge_file(rt: &LibcRuntime, path: &str) -> Result<(), AnyError> {
-    let mut buffer = [0; ENOUGH];
-    let n = read_file(rt, path, &mut buffer);
+fn account(rt: &LibcRuntime, folder: &str) -> Result<(), AnyError> {
     let mut sheet = Sheet::blank();
-    match load_sheet(&buffer[0..n], &mut sheet) {
+    match read_rule(rt, folder, &mut sheet)? {
         Ok(()) => show(rt, &sheet),
-        Err(fault) => {
-            let number = fault.number();
-            let place = fault.place();
-            println!(rt, "sheet refused {number} at {place}")?;
-            Ok(())
-        }
+        Err(fault) => Ok(tell_refusal(rt, "sheet", fault)?),
     }
 }
 
 fn run(rt: &LibcRuntime) -> Result<(), AnyError> {
-    let mut folders = env::args(rt)?.skip(1).peekable();
-    if folders.peek().is_none() {
-        return judge_file(rt, "rule.sht");
-    }
-    for folder in folders {
-        println!(rt, "{folder}:")?;
-        let path = format!(rt.alloc(), "{folder}/rule.sht")?;
-        judge_file(rt, path.as_str())?;
+    for folder in folders(rt)?.iter() {
+        tell_folder(rt, folder.as_str())?;
+        account(rt, folder.as_str())?;
     }
     Ok(())
 }

@@ -1,0 +1,5 @@
+pub mod Ledgers
+pub mod Agreeing
+pub mod Links
+pub mod Following
+pub mod Leaving

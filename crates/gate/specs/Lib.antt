@@ -1,0 +1,4 @@
+pub mod Words
+pub mod Ledger
+pub mod Chains
+pub mod Promise

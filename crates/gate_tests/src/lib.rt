@@ -1,0 +1,3 @@
+//! Examples of hosts and gates.
+#[cfg(test)]
+mod tests;

@@ -1,0 +1,4 @@
+pub mod Outcomes
+pub mod Hosting
+pub mod Boards
+pub mod Spools

@@ -1,0 +1,4 @@
+pub mod Firing
+pub mod Pairs
+pub mod Charts
+pub mod Going

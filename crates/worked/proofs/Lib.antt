@@ -1,0 +1,4 @@
+pub mod Firing
+pub mod Search
+pub mod Ledgers
+pub mod Worked
