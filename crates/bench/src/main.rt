@@ -52,9 +52,13 @@ fn time<W: Watch + Drop>(
             done = done.saturating_add(1);
         }
     }
-    let nanos = start.elapsed(rt)?.as_nanos();
-    let each = nanos / (actions.len().max(1) as u128);
-    eprintln!(rt, "{name}: {each} ns an action")?;
+    let nanos = start.elapsed(rt)?.as_nanos() / (actions.len().max(1) as u128);
+    let micros = nanos / 1000;
+    let thousandths = nanos % 1000;
+    eprintln!(
+        rt,
+        "{name}: {micros}.{thousandths:03} microseconds an action"
+    )?;
     Ok(done)
 }
 
