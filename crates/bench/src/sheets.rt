@@ -20,7 +20,11 @@ fn any_step(i: usize) -> [u8; 8] {
     } else {
         (16 + k % 4, k * 3 % 20)
     };
-    let (source, add) = if target == 0 { (0, 0) } else { (k % 20, k % 5) };
+    let (source, add) = if target == 0 {
+        (0, 0)
+    } else {
+        (16 + k % 4, k % 5)
+    };
     [0, 5, left, comparison, right, target, source, add]
 }
 
