@@ -3,3 +3,4 @@ pub mod Bytes
 pub mod Deeds
 pub mod Calls
 pub mod Traces
+pub mod Low

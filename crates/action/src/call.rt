@@ -1,6 +1,6 @@
 ghost use Rattle.std.specs.Prelude.{◌≡◌};
-ghost use Rattle.action.specs.Calls.{call_from, family as family-of, form as form_of, first as first_of, second as second-of, third as third_of};
-ghost use Rattle.std.proofs.Common.{rules};
+ghost use Rattle.action.specs.Calls.{call_from, family as family_of, form as form_of, first as first_of, second as second_of, third as third_of};
+ghost use Rattle.action.specs.Low.{family_low};
 
 use crate::action::Action;
 use crate::bytes::check_bytes;
@@ -47,7 +47,7 @@ impl Call {
     }
 
     pub fn family(&self) -> u8
-        ensures { result ≡ family-of self.now }
+        ensures { result ≡ family_of self.now }
     {
         self.family % 32
     }
@@ -65,7 +65,7 @@ impl Call {
     }
 
     pub fn second(&self) -> u8
-        ensures { result ≡ second-of self.now }
+        ensures { result ≡ second_of self.now }
     {
         self.second % 16
     }
@@ -78,9 +78,9 @@ impl Call {
 }
 
 impl Action for Call {
-    ghost kind = { family-of };
+    ghost kind = { family_of };
 
-    ghost low = { Prim.search rules };
+    ghost low = { family_low };
 
     fn kind(&self) -> Kind {
         Kind::of(self.family)

@@ -1,6 +1,6 @@
 ghost use Rattle.std.specs.Prelude.{◌≡◌};
-ghost use Rattle.action.specs.Deeds.{deed_from, reading as reading-of, address as address-of, partner as partner-of, signal as signal-of, first as first_of, second as second-of};
-ghost use Rattle.std.proofs.Common.{rules};
+ghost use Rattle.action.specs.Deeds.{deed_from, reading as reading_of, address as address_of, partner as partner_of, signal as signal_of, first as first_of, second as second_of};
+ghost use Rattle.action.specs.Low.{signal_low};
 
 use crate::action::Action;
 use crate::bytes::check_bytes;
@@ -48,7 +48,7 @@ impl Deed {
 
     /// The deed that four numbers are read as, each within its range.
     pub fn reading(address: u8, signal: u8, first: u8, second: u8) -> Deed
-        ensures { result ≡ reading-of address signal first second }
+        ensures { result ≡ reading_of address signal first second }
     {
         Deed {
             address: address % 8,
@@ -60,20 +60,20 @@ impl Deed {
 
     /// What a step matches of the partner.
     pub fn address(&self) -> u8
-        ensures { result ≡ address-of self.now }
+        ensures { result ≡ address_of self.now }
     {
         self.address % 8
     }
 
     /// Whom the deed is exchanged with.
     pub fn partner(&self) -> Partner
-        ensures { result.value ≡ partner-of self.now }
+        ensures { result.value ≡ partner_of self.now }
     {
         Partner::of(self.address)
     }
 
     pub fn signal(&self) -> u8
-        ensures { result ≡ signal-of self.now }
+        ensures { result ≡ signal_of self.now }
     {
         self.signal % 32
     }
@@ -85,16 +85,16 @@ impl Deed {
     }
 
     pub fn second(&self) -> u8
-        ensures { result ≡ second-of self.now }
+        ensures { result ≡ second_of self.now }
     {
         self.second % 16
     }
 }
 
 impl Action for Deed {
-    ghost kind = { signal-of };
+    ghost kind = { signal_of };
 
-    ghost low = { Prim.search rules };
+    ghost low = { signal_low };
 
     fn kind(&self) -> Kind {
         Kind::of(self.signal)

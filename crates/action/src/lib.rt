@@ -1,4 +1,6 @@
 //! Actions: the deeds of a script and the calls of its engine, each made from bytes.
+#![tactic(auto)]
+
 pub mod action;
 mod bytes;
 pub mod call;

@@ -11,7 +11,7 @@ use gate::gate::Gate;
 use host::board::Board;
 use run_file::MOST_DEEDS;
 use sheet::sheet::Sheet;
-use sheet_watch::watch::SheetWatch;
+use sheet_watch::watching::SheetWatch;
 
 // Each deed is submitted in turn.
 fn submit_all(deeds: &[Deed; MOST_DEEDS]) -> [Ask<Deed>; MOST_DEEDS]

@@ -1,4 +1,6 @@
 //! Times a gate: how many microseconds a deed takes, on standard error.
+#![tactic(auto)]
+
 mod sheets;
 
 use crate::sheets::{ordinary, worst};
@@ -11,7 +13,7 @@ use gate::gate::Gate;
 use host::spool::Spool;
 use sheet::sheet::Sheet;
 use sheet_file::load::load_sheet;
-use sheet_watch::watch::SheetWatch;
+use sheet_watch::watching::SheetWatch;
 use std::time::Instant;
 use translation::load::load_translation;
 use translation::translated::Translated;

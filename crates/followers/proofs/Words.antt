@@ -11,7 +11,7 @@ use Rattle.std.proofs.lemmas.Bool.Decides.{nat_tests}
 use Rattle.sheet.specs.declared.marks.Marks.{Marks}
 use Rattle.followers.specs.declared.sets.Targets.{Targets}
 use Rattle.followers.specs.declared.sets.NextSet.{NextSet}
-use Rattle.followers.specs.Next.{Next, at, end, Nexts, no_next, only_end, only_step, marked}
+use Rattle.followers.specs.Next.{Next, at, end, Nexts, no_next, only_end, only_step}
 use Rattle.followers.specs.Words.{bit, holds, nexts}
 
 top : (x a b : ℕ) → a < 2 → b < 2 → eqb ((x * 2 + max a b) % 2) 1 ≡ eqb a 1 || eqb b 1

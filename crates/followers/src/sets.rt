@@ -1,6 +1,6 @@
 //! Sets of what may come next.
 ghost use Rattle.std.specs.Prelude.{◌≡◌, ◌<◌, false, ◌&&◌, ◌||◌};
-ghost use Rattle.followers.specs.Next.{Next, at, no_next, only_end, only_step, join, after, marked as all-marked};
+ghost use Rattle.followers.specs.Next.{Next, at, no_next, only_end, only_step, join, after, marked as all_marked};
 ghost use Rattle.followers.specs.Words.{holds, nexts};
 
 use sheet::marks::Marks;
@@ -111,7 +111,7 @@ impl NextSet {
     }
 
     pub(crate) fn marked(self) -> NextSet
-        ensures { nexts result ≡ all-marked (nexts self) }
+        ensures { nexts result ≡ all_marked (nexts self) }
     {
         NextSet {
             plain: Targets::none(),

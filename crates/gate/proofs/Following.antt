@@ -7,7 +7,7 @@ use Rattle.gate.specs.declared.ask.Ask.{Ask}
 use Rattle.gate.specs.declared.gate.Gate.{Gate}
 use Rattle.gate.specs.Words.{Word, count_word}
 use Rattle.gate.specs.Ledger.{Ledger, Says, Replies, to_submit, to_query, to_count, done_of, after, opening, Runs, end, next}
-use Rattle.gate.specs.Chains.{Guarding, Submitted, Asked, submit, query, count, Chain, end as chain-end, next as Chain-next}
+use Rattle.gate.specs.Chains.{Guarding, Submitted, Asked, submit, query, count, Chain, end as chain_end, next as ChainNext}
 use Rattle.gate.specs.Promise.{RepliesAsLedger, Steps, none, more, Carried, Kept}
 use Rattle.gate.proofs.Ledgers.{says_elim, says_on, runs_done, runs_decide}
 
@@ -87,8 +87,8 @@ module _ {W H X : Type 0} (m : Guarding W H X) (v : Gate W H) where
   follow_one L f (count {g = g} {k = k} e) = (to_count (e ∙ ap (count_word k) (f.0.carried.counted k)), (stays L.done g g f.0 refl refl, f.1))
 
   follow_all : (L : Ledger X) {g h : Gate W H} {qs : List (Ask X)} {ws : List Word} → Going L g → Chain m g qs ws h → (M : Ledger X) × Runs (m.forbids v.watch) (m.host.can v.host) (m.host.counts v.host) m.host.kind L qs ws M × Going M h
-  follow_all L f chain-end = (L, end, f)
-  follow_all L f (Chain-next {a = a} {w = w} c cs) =
+  follow_all L f chain_end = (L, end, f)
+  follow_all L f (ChainNext {a = a} {w = w} c cs) =
       let one = follow_one L f c in
       let rest = follow_all (after L a w) one.1 cs in
       (rest.0, next one.0 rest.1, rest.2)

@@ -23,9 +23,9 @@ says_elim (by_host (is_passed e h f) (is_declined z c)) on-done on-stopped on-ba
 pub says_on : {X : Type 0} {F C G D : List X → Type 0} {d e : List X} {s t : Bool} {x : X} {n : ℕ} → Iff (F (d ++ (x ∷ []))) (G (e ++ (x ∷ []))) → Iff (C (d ++ (x ∷ []))) (D (e ++ (x ∷ []))) → t ≡ s → Says F C d s x n → Says G D e t x n
 says_on f c u says =
     says_elim says
-    (λ z h not_f yes-c. by_host (is_passed refl (u ∙ h) (λ p. not_f (f.1 p))) (is_done z (c.0 yes-c)))
+    (λ z h not_f yes_c. by_host (is_passed refl (u ∙ h) (λ p. not_f (f.1 p))) (is_done z (c.0 yes_c)))
     (λ z h. by_watch (is_stopped (ap refuse z) (u ∙ h)))
-    (λ z h yes-f. by_watch (is_barred (ap refuse z) (u ∙ h) (f.0 yes-f)))
+    (λ z h yes_f. by_watch (is_barred (ap refuse z) (u ∙ h) (f.0 yes_f)))
     (λ z h not_f not-c. by_host (is_passed refl (u ∙ h) (λ p. not_f (f.1 p))) (is_declined z (λ p. not-c (c.1 p))))
 
 decided_at : {X : Type 0} (F C : List X → Type 0) (d : List X) (s : Bool) (x : X) (n : ℕ) → Says F C d s x n → DecidedAt F C d s x n

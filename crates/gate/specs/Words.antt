@@ -1,7 +1,7 @@
 -- The numbers of the answers, and what a reply says in numbers.
 use Rattle.std.specs.Prelude.{ℕ, cond, Ok, Err, Result, nat_le}
 use Rattle.fault.specs.declared.fault.Fault.{Fault}
-use Rattle.fault.specs.Faults.{number as fault-number, place as fault-place}
+use Rattle.fault.specs.Faults.{number as fault_number, place as fault_place}
 use Rattle.action.specs.Ranges.{highest_kind}
 use Rattle.gate.specs.declared.answer.Answer.{Answer}
 use Rattle.gate.specs.declared.answer.Answer.TheVariants.{Done, Stopped, Barred, Declined}
@@ -22,7 +22,7 @@ pub data Word : Type 0 where
 
 abbrev pub told : Result ℕ Fault → Word
 told (Ok m) = count m
-told (Err f) = refusal (fault-number f) (fault-place f)
+told (Err f) = refusal (fault_number f) (fault_place f)
 
 abbrev pub said : Reply → Word
 said (Answered a) = answer (number a)

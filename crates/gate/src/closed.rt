@@ -21,7 +21,7 @@ impl<H: Host> Closed<H> {
 
     /// The host's count of a kind, or refusal 13.
     pub fn count(&self, kind: u8) -> Result<u64, Fault>
-        ensures { result ≡ count_of kind (counts self.now.host kind) }
+        ensures { result ≡ count_of kind (H.Host.counts self.now.host kind) }
     {
         self.host.count(kind)
     }

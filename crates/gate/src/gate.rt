@@ -35,7 +35,7 @@ impl<W: Watch, H: Host<Act = W::Act>> Gate<W, H> {
 
     /// Has the host do an action, unless the gate is stopped, the watch bars it or the host cannot.
     pub fn submit(&mut self, a: &W::Act) -> Answer
-        ensures { Asked (guarding forbids can counts recorded did W.Act.Action.kind) self.old (Ask.Submit a.now) (answer (number result)) self.new }
+        ensures { Asked (guarding W.Watch.forbids H.Host.can H.Host.counts H.Host.recorded H.Host.did W.Act.Action.kind) self.old (Ask.Submit a.now) (answer (number result)) self.new }
     {
         if self.stopped {
             return Answer::Stopped;
@@ -55,7 +55,7 @@ impl<W: Watch, H: Host<Act = W::Act>> Gate<W, H> {
 
     /// What `submit` would answer.
     pub fn query(&self, a: &W::Act) -> Answer
-        ensures { Asked (guarding forbids can counts recorded did W.Act.Action.kind) self.now (Ask.Query a.now) (answer (number result)) self.now }
+        ensures { Asked (guarding W.Watch.forbids H.Host.can H.Host.counts H.Host.recorded H.Host.did W.Act.Action.kind) self.now (Ask.Query a.now) (answer (number result)) self.now }
     {
         if self.stopped {
             Answer::Stopped
@@ -70,14 +70,14 @@ impl<W: Watch, H: Host<Act = W::Act>> Gate<W, H> {
 
     /// The host's count of a kind, or refusal 13.
     pub fn count(&self, kind: u8) -> Result<u64, Fault>
-        ensures { Asked (guarding forbids can counts recorded did W.Act.Action.kind) self.now (Ask.Count kind) (told result) self.now }
+        ensures { Asked (guarding W.Watch.forbids H.Host.can H.Host.counts H.Host.recorded H.Host.did W.Act.Action.kind) self.now (Ask.Count kind) (told result) self.now }
     {
         self.host.count(kind)
     }
 
     // Replies to one ask.
     fn reply(&mut self, ask: &Ask<W::Act>) -> Reply
-        ensures { Asked (guarding forbids can counts recorded did W.Act.Action.kind) self.old ask.now (said result) self.new }
+        ensures { Asked (guarding W.Watch.forbids H.Host.can H.Host.counts H.Host.recorded H.Host.did W.Act.Action.kind) self.old ask.now (said result) self.new }
     {
         match ask {
             Ask::Submit(a) => Reply::Answered(self.submit(a)),
@@ -90,10 +90,10 @@ impl<W: Watch, H: Host<Act = W::Act>> Gate<W, H> {
     pub fn serve(&mut self, asks: &[Ask<W::Act>], replies: &mut [Reply]) -> usize
         ensures many { result ≡ min (length asks.now) (length replies.old) }
         ensures later { drop result replies.new ≡ drop result replies.old }
-        ensures chain { Chain (guarding forbids can counts recorded did W.Act.Action.kind) self.old (take result asks.now) (map said (take result replies.new)) self.new }
-        ensures ledger { RepliesAsLedger (guarding forbids can counts recorded did W.Act.Action.kind) self.old (take result asks.now) (map said (take result replies.new)) self.new }
-        ensures decided { BarsAndDoesExactly (forbids self.old.watch) (can self.old.host) self.old.stopped (take result asks.now) (map said (take result replies.new)) }
-        ensures carried { CarriesDone (guarding forbids can counts recorded did W.Act.Action.kind) self.old (done_of (take result asks.now) (map said (take result replies.new))) self.new }
+        ensures chain { Chain (guarding W.Watch.forbids H.Host.can H.Host.counts H.Host.recorded H.Host.did W.Act.Action.kind) self.old (take result asks.now) (map said (take result replies.new)) self.new }
+        ensures ledger { RepliesAsLedger (guarding W.Watch.forbids H.Host.can H.Host.counts H.Host.recorded H.Host.did W.Act.Action.kind) self.old (take result asks.now) (map said (take result replies.new)) self.new }
+        ensures decided { BarsAndDoesExactly (W.Watch.forbids self.old.watch) (H.Host.can self.old.host) self.old.stopped (take result asks.now) (map said (take result replies.new)) }
+        ensures carried { CarriesDone (guarding W.Watch.forbids H.Host.can H.Host.counts H.Host.recorded H.Host.did W.Act.Action.kind) self.old (done_of (take result asks.now) (map said (take result replies.new))) self.new }
     {
         let many = asks.len().min(replies.len());
         for i in 0..many {

@@ -13,12 +13,12 @@ use watch::watch::Watch;
 
 /// Single calls and runs, in any mix, keep the promise from the gate at which they begin, a fresh one among them.
 pub fn calls_keep<W: Watch, H: Host<Act = W::Act>>()
-    ensures { (g h : Gate W H) (qs : List (Ask W.Act)) (ws : List Word) → Mix (guarding forbids can counts recorded did W.Act.Action.kind) g qs ws h → Kept (guarding forbids can counts recorded did W.Act.Action.kind) g qs ws h }
+    ensures { (g h : Gate W H) (qs : List (Ask W.Act)) (ws : List Word) → Mix (guarding W.Watch.forbids H.Host.can H.Host.counts H.Host.recorded H.Host.did W.Act.Action.kind) g qs ws h → Kept (guarding W.Watch.forbids H.Host.can H.Host.counts H.Host.recorded H.Host.did W.Act.Action.kind) g qs ws h }
 {}
 
 /// Ledger runs one after another are one run.
 pub fn ledgers_compose<W: Watch, H: Host<Act = W::Act>>()
-    ensures { (w : W) (h : H) → Compose (forbids w) (can h) (counts h) W.Act.Action.kind }
+    ensures { (w : W) (h : H) → Compose (W.Watch.forbids w) (H.Host.can h) (H.Host.counts h) W.Act.Action.kind }
 {}
 
 /// Two ledgers that know the same lists and counts give the same replies, done actions and stop.

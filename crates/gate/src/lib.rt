@@ -1,4 +1,6 @@
 //! The gate: it stands between a script and its host, and has a watch judge what is asked for.
+#![tactic(auto)]
+
 pub mod answer;
 pub mod ask;
 pub mod closed;

@@ -1,3 +1,5 @@
 //! Examples of hosts and gates.
+#![tactic(auto)]
+
 #[cfg(test)]
 mod tests;

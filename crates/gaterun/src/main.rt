@@ -1,5 +1,7 @@
 //! Runs the deeds of `run.dds` through a gate: under the rule sheet `rule.sht`, over a board; both files in the current folder, or
 //! in each folder that is named.
+#![tactic(auto)]
+
 use answers::files::{Refused, answer_files};
 use file_input::files::{RUN_BYTES, SHEET_BYTES, rule_bytes, run_bytes};
 use file_input::folders::folders;

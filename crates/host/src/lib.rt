@@ -1,4 +1,6 @@
 //! Hosts: what does the actions, and counts them.
+#![tactic(auto)]
+
 pub mod board;
 pub mod host;
 pub mod lent;

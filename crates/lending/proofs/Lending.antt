@@ -1,5 +1,5 @@
 -- A gate that was opened over what is lent, and what its owner then has.
-use Rattle.std.proofs.Common.{◌≡◌, ℕ, List, [], ◌++◌, length, drop, Some, sym, refl, ap, ◌∙◌, subst, one-add, take-append-drop, Bor, MutBor}
+use Rattle.std.proofs.Common.{◌≡◌, ℕ, List, [], ◌++◌, length, drop, Some, sym, refl, ap, ◌∙◌, subst, one-add, take-append-drop, MutBor}
 use Rattle.std.proofs.lemmas.List.{drop-drop}
 use Rattle.host.specs.declared.spool.Spool.{Spool}
 use Rattle.host.specs.Hosting.{Hosting, followed}
@@ -19,7 +19,7 @@ lent m = record {
 }
 
 module _ {H X : Type 0} (m : Hosting H X) where
-  lent_steps : {g h : Bor H} {d : List X} → Steps (lent m).did g d h → Steps m.did g.now d h.now
+  lent_steps : {g h : MutBor H} {d : List X} → Steps (lent m).did g d h → Steps m.did g.now d h.now
   lent_steps none = none
   lent_steps (more s t) = more s.0 (lent_steps t)
 
@@ -31,7 +31,7 @@ module _ {H X : Type 0} (m : Hosting H X) where
   lent_same c = lent_names c.steps
 
   -- where e is what the owner then has
-  pub lent_carried : {g h : Bor H} {d : List X} {e : H} → e ≡ h.now → Carried (lent m) g d h → Carried m g.now d e
+  pub lent_carried : {g h : MutBor H} {d : List X} {e : H} → e ≡ h.now → Carried (lent m) g d h → Carried m g.now d e
   lent_carried {g = g} {d = d} is c = subst (λ k. Carried m g.now d k) (sym is) (record { counted = c.counted; kept = c.kept; steps = lent_steps c.steps })
 
 -- a spool's own steps: its later places keep what they held, and its places are the same owner's

@@ -1,6 +1,5 @@
 ghost use Rattle.std.specs.Prelude.{[], ◌∷◌, Decides};
 ghost use Rattle.watch.specs.Meaning.{Shifted};
-ghost use Rattle.std.proofs.Common.{rules};
 
 use std::marker::PhantomData;
 use watch::watch::Watch;
@@ -49,7 +48,7 @@ impl<R: Reaches<W>, W: Watch> Watch for Elsewhere<R, W> {
 
     ghost forbids = { λ w. W.Watch.forbids (R.Reaches.behind w.at) };
 
-    ghost leaving = { Prim.search rules };
+    ghost leaving = { λ w. W.Watch.leaving (R.Reaches.behind w.at) };
 
     fn broken(&self) -> bool {
         self.at.reach_broken()

@@ -1,5 +1,5 @@
 -- Runs side by side: before any deed, and one deed further.
-use Rattle.std.proofs.Common.{◌≡◌, ℕ, ◌<◌, Bool, true, false, ◌||◌, T, ◌⊎◌, ◌↔◌, List, [], ◌∷◌, Decides, sym, refl, ap, ◌∙◌, subst, inl, inr}
+use Rattle.std.proofs.Common.{◌≡◌, ℕ, ◌<◌, Bool, true, false, ◌||◌, T, ◌↔◌, List, [], ◌∷◌, Decides, sym, refl, ◌∙◌, subst, inl, inr}
 use mathlib.Core.Path.{fun_ext}
 use Rattle.action.specs.declared.deed.Deed.{Deed}
 use Rattle.sheet.specs.declared.diagram.Diagram.{Diagram}
@@ -10,12 +10,12 @@ use Rattle.sheet.specs.Forbid.{fragment, Negative}
 use Rattle.sheet.specs.Rules.{accepted}
 use Rattle.sheet.proofs.Bools.{T_true}
 use Rattle.sheet.proofs.Both.{move}
-use Rattle.followers.specs.Next.{at, end, Nexts}
+use Rattle.followers.specs.Next.{Nexts}
 use Rattle.followers.specs.Accepts.{Fires, Accepts}
 use Rattle.followers.specs.Followers.{begin_of, next_after}
 use Rattle.followers.proofs.Negatives.{finds_negatives}
 use Rattle.machine.specs.Pairs.{May}
-use Rattle.machine.specs.Going.{EndsBelow, MovesBelow, Ends, Adds, Left, Begun}
+use Rattle.machine.specs.Going.{MovesBelow, Ends, Adds, Left, Begun}
 
 pub decides_same : (a b : Bool) → a ≡ b → Decides a (T b)
 decides_same a b q = (λ e. move (sym (sym q ∙ e)) tt, λ t. q ∙ T_true b t)

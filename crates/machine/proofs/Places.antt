@@ -13,7 +13,7 @@ use Rattle.sheet.specs.Empties.{has, both}
 use Rattle.sheet.specs.Meaning.{Takes, Puts, Changes}
 use Rattle.sheet.proofs.Bools.{and_in, and_out}
 use Rattle.sheet.proofs.Both.{move, has_same, both_out}
-use Rattle.machine.specs.Pairs.{marks_of, only_if, small, place, seen, May, may, Reached}
+use Rattle.machine.specs.Pairs.{marks_of, small, place, seen, may, Reached}
 use Rattle.machine.proofs.Carried.{marks_zero, no_mark, only_in, only_out, only_yes, or_at, byte_marked, marked_byte}
 
 pub small_in : (v : Variables) → v.x < 16 → v.y < 16 → T (small v)

@@ -1,9 +1,8 @@
 -- The first marks.
-use Rattle.std.proofs.Common.{◌≡◌, ℕ, ◌+◌, ◌*◌, ◌<◌, Bool, true, false, ◌&&◌, ◌||◌, T, ◌⊎◌, ◌↔◌, List, length, get_or, set, replicate, sym, refl, ap, ◌∙◌, subst, inl, inr, arith, get_or-set_other, get_or-set_same}
+use Rattle.std.proofs.Common.{◌≡◌, ℕ, ◌<◌, Bool, true, false, ◌||◌, T, ◌⊎◌, ◌↔◌, List, get_or, set, replicate, sym, refl, ap, ◌∙◌, subst, inl, inr, arith, get_or-set_other, get_or-set_same}
 use native.Mathlib.Decide.{ℕ_discrete}
 use lib.ListN.{length-replicate}
 use Rattle.sheet.specs.declared.diagram.Variables.{Variables}
-use Rattle.sheet.specs.declared.marks.Marks.{Marks}
 use Rattle.sheet.specs.Empties.{has, both}
 use Rattle.sheet.proofs.Both.{has_same, both_at, both_out}
 use Rattle.followers.specs.Next.{at, Nexts}

@@ -1,5 +1,5 @@
 -- What loops over the steps reach: one more step fired.
-use Rattle.std.proofs.Common.{◌≡◌, ℕ, ◌+◌, ◌<◌, ◌≤◌, Bool, true, false, ◌&&◌, ◌||◌, T, ltb, ◌⊎◌, ◌↔◌, Some, None, Decides, Option, sym, refl, ap, ◌∙◌, subst, inl, inr, arith, ltb→lt}
+use Rattle.std.proofs.Common.{◌≡◌, ℕ, ◌+◌, ◌<◌, ◌≤◌, Bool, true, false, ◌||◌, T, ltb, ◌⊎◌, ◌↔◌, Some, None, Decides, Option, sym, refl, ap, ◌∙◌, subst, inl, inr, arith, ltb→lt}
 use native.Mathlib.Decide.{dec_lt}
 use Rattle.std.proofs.lemmas.Bool.Decides.{Decides-like, Decides-or}
 use Rattle.action.specs.declared.deed.Deed.{Deed}
@@ -12,9 +12,9 @@ use Rattle.sheet.specs.Meaning.{Takes}
 use Rattle.sheet.proofs.Bools.{and_out, T_true}
 use Rattle.sheet.proofs.Both.{move, has_same, both_at, both_out}
 use Rattle.followers.specs.declared.sets.NextSet.{NextSet}
-use Rattle.followers.specs.Next.{Next, at, end, Nexts}
+use Rattle.followers.specs.Next.{at, end, Nexts}
 use Rattle.followers.specs.Accepts.{Fires}
-use Rattle.followers.specs.Words.{bit, holds, nexts}
+use Rattle.followers.specs.Words.{bit, nexts}
 use Rattle.machine.specs.Firing.{Suited}
 use Rattle.machine.specs.Pairs.{May, Reached}
 use Rattle.machine.specs.Going.{EndsBelow, MovesBelow}

@@ -2,7 +2,6 @@
 use Rattle.std.specs.Prelude.{ℕ, false, List, slice_index_or}
 use Rattle.sheet.specs.declared.diagram.Fragment.{Fragment}
 use Rattle.sheet.specs.declared.diagram.Fragment.TheVariants.{Skip}
-use Rattle.followers.specs.declared.sets.Targets.{Targets}
 use Rattle.followers.specs.declared.sets.NextSet.{NextSet}
 use Rattle.followers.specs.Next.{Nexts}
 use Rattle.followers.specs.Words.{nexts}

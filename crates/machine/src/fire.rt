@@ -1,6 +1,6 @@
 // One step, one deed, one pair of x and y.
 ghost use Rattle.std.specs.Prelude.{◌≡◌, Decides};
-ghost use Rattle.sheet.specs.Meaning.{value, Holds, Passes as Guard-passes, Puts, Changes, Takes};
+ghost use Rattle.sheet.specs.Meaning.{value, Holds, Passes as GuardPasses, Puts, Changes, Takes};
 ghost use Rattle.machine.specs.Firing.{Finds, Suits, Suited};
 
 use action::deed::Deed;
@@ -33,7 +33,7 @@ fn holds(comparison: Comparison, a: u8, b: u8) -> bool
 }
 
 fn passes(guard: Option<Guard>, v: Variables, d: Deed) -> bool
-    ensures { Decides result (Guard-passes guard v d) }
+    ensures { Decides result (GuardPasses guard v d) }
 {
     match guard {
         Some(g) => holds(

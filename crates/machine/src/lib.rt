@@ -1,4 +1,6 @@
 //! The machine of a sheet: all its runs side by side, deed by deed.
+#![tactic(auto)]
+
 pub mod accepts;
 mod bytes;
 pub mod chart;

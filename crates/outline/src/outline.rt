@@ -1,6 +1,6 @@
 ghost use Rattle.std.specs.Prelude.{◌≡◌, ◌+◌, ◌<◌, ◌≤◌, ◌++◌, IfOk, OnOk};
 ghost use Rattle.sheet.specs.Forbid.{fragment as fragment_at};
-ghost use Rattle.outline.specs.Lines.{lines_at, outline as outline-of};
+ghost use Rattle.outline.specs.Lines.{lines_at, outline as outline_of};
 
 use sheet::diagram::Fragment;
 use sheet::sheet::Sheet;
@@ -33,7 +33,7 @@ fn add(sheet: &Sheet, i: usize, depth: usize, lines: &mut Vec<Line>) -> Result<(
 
 /// The lines of a sheet: the whole first, and each fragment before its parts.
 pub fn outline(heap: Global, sheet: &Sheet) -> Result<Vec<Line>, AllocError>
-    ensures { IfOk result (λ v. v.items ≡ outline-of sheet.now.diagram) }
+    ensures { IfOk result (λ v. v.items ≡ outline_of sheet.now.diagram) }
 {
     let mut lines = Vec::new(heap);
     add(sheet, sheet.diagram.count - 1, 0, &mut lines)?;

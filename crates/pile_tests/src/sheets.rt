@@ -4,7 +4,7 @@ use gate::gate::Gate;
 use host::board::Board;
 use sheet::sheet::Sheet;
 use sheet_file::load::load_sheet;
-use sheet_watch::watch::SheetWatch;
+use sheet_watch::watching::SheetWatch;
 use std::test::Fail;
 use translation::load::load_translation;
 use translation::translated::Translated;

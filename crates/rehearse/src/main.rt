@@ -1,5 +1,7 @@
 //! Rehearses the run `run.dds` under the rule sheet `rule.sht`, both in the current folder or in each folder that is named, and
 //! prints how far it would get.
+#![tactic(auto)]
+
 ghost use Rattle.std.specs.Prelude.{◌≤◌};
 
 use action::deed::Deed;
@@ -9,7 +11,7 @@ use file_input::tell::{tell_folder, tell_refusal};
 use run_file::MOST_DEEDS;
 use sheet::sheet::Sheet;
 use sheet_watch::rehearsal::rehearse;
-use sheet_watch::watch::SheetWatch;
+use sheet_watch::watching::SheetWatch;
 use std::io;
 
 // Rehearses the first n of the deeds.

@@ -1,7 +1,9 @@
 //! The byte format of a run: a list of deeds.
+#![tactic(auto)]
+
 ghost use Rattle.std.specs.Prelude.{◌≡◌, ◌+◌, ◌*◌, ◌<◌, ◌≤◌, ◌++◌, length, drop, IfOk};
 ghost use Rattle.fault.specs.Checks.{or_fault, filled};
-ghost use Rattle.run_file.specs.Runs.{count_of, shape_check, deed_fits, deeds_check, deed_at as deed-there, deeds_of, run_verdict, run_deeds};
+ghost use Rattle.run_file.specs.Runs.{count_of, shape_check, deed_fits, deeds_check, deed_at as deed_there, deeds_of, run_verdict, run_deeds};
 
 use action::deed::{Deed, HIGHEST_ADDRESS};
 use action::kind::HIGHEST_KIND;
@@ -47,7 +49,7 @@ fn check_deeds(bytes: &[u8], count: usize) -> Result<(), Fault>
 fn deed_at(bytes: &[u8], count: usize, i: usize) -> Deed
     requires whole { length bytes.now ≡ 2 + 3 * count }
     requires here { i < count }
-    ensures { result ≡ deed-there bytes.now count i }
+    ensures { result ≡ deed_there bytes.now count i }
 {
     let arguments = bytes[2 + 2 * count + i];
     Deed::reading(

@@ -9,14 +9,14 @@ ghost use Rattle.sheet.specs.Rules.{
   guard_fits,
   change_fits,
   step_fits,
-  fits as fragment-fits,
+  fits as fragment_fits,
   ranges_check,
   names_late,
   names,
   times_named as times,
-  misplaced as is-misplaced,
+  misplaced as is_misplaced,
   tree_check,
-  is_step as step-there,
+  is_step as step_there,
   steps_in,
   steps_check,
   empty_check,
@@ -77,7 +77,7 @@ fn step_in_range(s: Step) -> bool
 }
 
 fn in_range(f: Fragment) -> bool
-    ensures { result ≡ fragment-fits f }
+    ensures { result ≡ fragment_fits f }
 {
     match f {
         Fragment::Step(s) => step_in_range(s),
@@ -138,7 +138,7 @@ fn times_named(d: &Diagram, part: usize) -> usize
 fn misplaced(d: &Diagram, i: usize) -> bool
     requires few { d.now.count ≤ 64 }
     requires here { i < d.now.count }
-    ensures { result ≡ is-misplaced d.now i }
+    ensures { result ≡ is_misplaced d.now i }
 {
     names_later(d.fragments[i], i) || (i + 1 != d.count && times_named(d, i) != 1)
 }
@@ -156,7 +156,7 @@ pub(crate) fn check_tree(d: &Diagram) -> Result<(), Fault>
 }
 
 fn is_step(f: Fragment) -> bool
-    ensures { result ≡ step-there f }
+    ensures { result ≡ step_there f }
 {
     match f {
         Fragment::Step(_) => true,

@@ -1,4 +1,6 @@
 //! Sheets: diagrams of one lifeline, what they mean, and which of them are accepted.
+#![tactic(auto)]
+
 mod checks;
 pub mod diagram;
 pub mod emptiness;

@@ -3,7 +3,7 @@ use machine::accepts::accepts;
 use sheet::sheet::Sheet;
 use sheet_file::load::load_sheet;
 use sheet_watch::rehearsal::rehearse;
-use sheet_watch::watch::SheetWatch;
+use sheet_watch::watching::SheetWatch;
 use std::test::Fail;
 
 // The seq of the neg of a step of signal 3 and a step of signal 4.

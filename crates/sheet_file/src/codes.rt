@@ -1,6 +1,6 @@
 // The codes of terms, comparisons and variables.
 ghost use Rattle.std.specs.Prelude.{◌≡◌};
-ghost use Rattle.sheet_file.specs.Codes.{term as term_of, comparison as comparison-of, guard as guard-of, change as change-of};
+ghost use Rattle.sheet_file.specs.Codes.{term as term_of, comparison as comparison_of, guard as guard_of, change as change_of};
 
 use sheet::step::{Change, Comparison, Guard, Term, Variable};
 
@@ -17,7 +17,7 @@ fn term(code: u8) -> Term
 }
 
 fn comparison(code: u8) -> Comparison
-    ensures { result ≡ comparison-of code }
+    ensures { result ≡ comparison_of code }
 {
     match code {
         1 => Comparison::Equal,
@@ -31,7 +31,7 @@ fn comparison(code: u8) -> Comparison
 
 // No guard where the comparison is 0.
 pub(crate) fn guard(left: u8, code: u8, right: u8) -> Option<Guard>
-    ensures { result ≡ guard-of left code right }
+    ensures { result ≡ guard_of left code right }
 {
     if code == 0 {
         return None;
@@ -45,7 +45,7 @@ pub(crate) fn guard(left: u8, code: u8, right: u8) -> Option<Guard>
 
 // No change where the target is 0.
 pub(crate) fn change(target: u8, source: u8, add: u8) -> Option<Change>
-    ensures { result ≡ change-of target source add }
+    ensures { result ≡ change_of target source add }
 {
     if target == 0 {
         return None;

@@ -1,7 +1,7 @@
 // The kinds and the rows of the fragments.
 ghost use Rattle.std.specs.Prelude.{◌≡◌, ◌*◌, ◌≤◌, length};
 ghost use Rattle.fault.specs.Checks.{or_fault};
-ghost use Rattle.sheet_file.specs.Rows.{parts as parts-of, all_zero, step_row_fits, row_fits, row_check, fragment_of, fragments_of, kinds_check, rows_check};
+ghost use Rattle.sheet_file.specs.Rows.{parts as parts_of, all_zero, step_row_fits, row_fits, row_check, fragment_of, fragments_of, kinds_check, rows_check};
 
 use crate::codes::{change, guard};
 use action::deed::{HIGHEST_ADDRESS, HIGHEST_ARGUMENT};
@@ -35,7 +35,7 @@ pub(crate) fn check_kinds(kinds: &[u8]) -> Result<(), Fault>
 
 // How many parts a fragment of a kind names, in the first columns of its row.
 fn parts(kind: u8) -> usize
-    ensures { result ≡ parts-of kind }
+    ensures { result ≡ parts_of kind }
 {
     match kind {
         2 | 3 => 2,

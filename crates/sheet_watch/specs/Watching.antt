@@ -7,7 +7,7 @@ use Rattle.followers.specs.Next.{Nexts}
 use Rattle.machine.specs.Pairs.{May, may}
 use Rattle.machine.specs.Charts.{kinds_of, follows_of}
 use Rattle.machine.specs.Going.{Left}
-use Rattle.sheet_watch.specs.declared.watch.SheetWatch.{SheetWatch}
+use Rattle.sheet_watch.specs.declared.watching.SheetWatch.{SheetWatch}
 
 -- some list that is left to come is a sub-trace of L
 abbrev pub Within : (ℕ → Fragment) → (ℕ → Nexts) → Bool → May → List Deed → Type 0

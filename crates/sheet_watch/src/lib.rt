@@ -1,3 +1,5 @@
 //! The watch of a sheet, and rehearsals.
+#![tactic(auto)]
+
 pub mod rehearsal;
-pub mod watch;
+pub mod watching;

@@ -2,7 +2,7 @@
 ghost use Rattle.std.specs.Prelude.{◌≡◌, ℕ, ◌+◌, ◌<◌, ◌≤◌, length, take};
 ghost use Rattle.sheet_watch.specs.Watching.{Forbidden};
 
-use crate::watch::SheetWatch;
+use crate::watching::SheetWatch;
 use action::deed::Deed;
 
 // The marks of a watch while it rehearses; they are put back however the rehearsal ends.

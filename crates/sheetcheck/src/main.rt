@@ -1,4 +1,6 @@
 //! Judges the rule sheet `rule.sht` in the current folder, or in each folder that is named, and prints an account of it.
+#![tactic(auto)]
+
 use file_input::files::read_rule;
 use file_input::folders::folders;
 use file_input::tell::{tell_folder, tell_refusal};

@@ -12,7 +12,7 @@ use machine::accepts::accepts;
 use run_file::{MOST_DEEDS, load_run};
 use sheet::sheet::Sheet;
 use sheet_watch::rehearsal::rehearse;
-use sheet_watch::watch::SheetWatch;
+use sheet_watch::watching::SheetWatch;
 use std::alloc::{AllocError, Global};
 use std::io;
 use watch::watch::Watch;

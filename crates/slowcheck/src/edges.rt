@@ -2,13 +2,14 @@
 ghost use Rattle.std.specs.Prelude.{◌≤◌};
 
 use action::deed::Deed;
+use anyhow::anyhow;
 use fault::fault::Fault;
 use gate::gate::Gate;
 use host::board::Board;
 use host::host::Host;
 use host::spool::Spool;
 use sheet::sheet::Sheet;
-use sheet_watch::watch::SheetWatch;
+use sheet_watch::watching::SheetWatch;
 use std::alloc::{AllocError, Global};
 
 fn tall_kind(steps: u8, i: u8) -> u8
@@ -62,7 +63,11 @@ fn add_rows(bytes: &mut Vec<u8>, steps: u8, count: u8) -> Result<(), AllocError>
 
 /// Fails with these words unless it holds.
 pub fn expect(holds: bool, what: &str) -> anyhow::Result<()> {
-    if holds { Ok(()) } else { Err(what.into()) }
+    if holds {
+        Ok(())
+    } else {
+        Err(anyhow!("{what}"))
+    }
 }
 
 fn told(r: Result<Deed, Fault>) -> (u8, usize) {

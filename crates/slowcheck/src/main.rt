@@ -1,5 +1,7 @@
 //! A slow program beside the fast ones: what a sheet forbids, found by trying everything, on many sheets and lists that are drawn
 //! at random, the same in every run. A difference is printed whole and fails the run.
+#![tactic(auto)]
+
 mod beside;
 mod draw;
 mod edges;

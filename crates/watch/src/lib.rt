@@ -1,4 +1,6 @@
 //! Watches: what they forbid, alone and in piles.
+#![tactic(auto)]
+
 pub mod cap;
 pub mod narrowed;
 pub mod order;

@@ -1,5 +1,5 @@
 ghost use Rattle.std.specs.Prelude.{◌≡◌, ◌==◌};
-ghost use Rattle.action.specs.Deeds.{partner as partner-of};
+ghost use Rattle.action.specs.Deeds.{partner as partner_of};
 ghost use Rattle.watch.specs.Meaning.{Alike};
 ghost use Rattle.watch.specs.Narrows.{narrowed_forbids, with_partner};
 ghost use Rattle.watch.specs.Leaving.{narrowed_leaves};
@@ -29,7 +29,7 @@ impl<W: Watch<Act = Deed>> Narrowed<W> {
 
     // Whether the watch below is shown a deed.
     fn shows(&self, deed: &Deed) -> bool
-        ensures { result ≡ (partner-of deed.now == self.now.partner.value) }
+        ensures { result ≡ (partner_of deed.now == self.now.partner.value) }
     {
         deed.partner().value() == self.partner.value()
     }

@@ -9,8 +9,8 @@ loop-i-init c = refl
 pub loop-i-preserved : goal.loop-i-preserved
 loop-i-preserved c =
     let i = c.loop-i.i in
-    ap₂ (λ xs v. set xs i v) c.loop-i.invariant c.deed-at.ensures
-    ∙ front_more (deed_at c.args.bytes.now c.args.count) c.args.out.now i c.deed-at.result (omega arith)
+    ap₂ (λ xs v. set xs i v) c.loop-i.invariant c.deed_at.ensures
+    ∙ front_more (deed_at c.args.bytes.now c.args.count) c.args.out.now i c.deed_at.result (omega arith)
 
 pub returns : goal.returns
 returns c =

@@ -4,7 +4,7 @@ use Rattle.action.specs.declared.deed.Deed.{Deed}
 use Rattle.action.specs.Deeds.{signal}
 use Rattle.action.specs.Traces.{tally}
 use Rattle.sheet.specs.Forbid.{Forbids}
-use Rattle.sheet_watch.specs.declared.watch.SheetWatch.{SheetWatch}
+use Rattle.sheet_watch.specs.declared.watching.SheetWatch.{SheetWatch}
 use Rattle.sheet_watch.specs.Watching.{Forbidden}
 use Rattle.host.specs.declared.board.Board.{Board}
 use Rattle.host.specs.Boards.{counted, Within}
@@ -26,13 +26,13 @@ returns c =
     let r : ℕ = c.run-many.result in
     let ds : List Deed = c.args.deeds.now in
     let d = c.args.sheet.now.diagram in
-    let asks : List (Ask Deed) = c.submit-all-asks.result in
+    let asks : List (Ask Deed) = c.submit_all-asks.result in
     let n : ℕ = c.min-few.result - 0 in
     let qs : List (Ask Deed) = take r (take n asks) in
     let ws = map said (take r c.run-many.new.replies) in
-    let all : length asks ≡ length ds = ap length c.submit-all-asks.ensures ∙ length-submits ds in
+    let all : length asks ≡ length ds = ap length c.submit_all-asks.ensures ∙ length-submits ds in
     let few : r ≤ n = omega (arith, s.many, length-take n asks) in
-    let same : qs ≡ submits (take r ds) = take-take r n asks few ∙ ap (take r) c.submit-all-asks.ensures ∙ take_submits r ds in
+    let same : qs ≡ submits (take r ds) = take-take r n asks few ∙ ap (take r) c.submit_all-asks.ensures ∙ take_submits r ds in
     let At : Gate SheetWatch (Board Deed) → Type 0 =
     λ g. Runs (Forbidden g.watch) (Within signal g.host.counts) (counted g.host.counts) signal (opening g.stopped) qs ws (record { done = done_of qs ws; stopped = c.run-many.new.self.stopped }) in
     let opened = runs_alike (Forbids d) Few (λ _. 0) c.new.ensures (λ l. (c.new-2.ensures.only l, c.new-2.ensures.every l)) c.new-2.ensures.zero (subst At c.open-gate.ensures s.ledger) in

@@ -4,9 +4,9 @@ use Rattle.file_input.proofs.files.read_run.Goals as goal
 
 pub returns : goal.returns
 returns g c =
-    let n = c.in-ok-n.n in
-    let b = between 0 n c.run-bytes.new.buffer in
+    let n = c.in_ok-n.n in
+    let b = between 0 n c.run_bytes.new.buffer in
     record {
-      read = (b, simp (length-take, length-drop) (omega (arith, c.in-ok-n.ensures)), c.load-run.ensures.verdict, c.load-run.ensures.place);
-      few = c.load-run.ensures.few;
+      read = (b, simp (length-take, length-drop) (omega (arith, c.in_ok-n.ensures)), c.load_run.ensures.verdict, c.load_run.ensures.place);
+      few = c.load_run.ensures.few;
     }

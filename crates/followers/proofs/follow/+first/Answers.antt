@@ -9,14 +9,14 @@ use Rattle.followers.proofs.follow.+first.Goals as goal
 
 pub returns-in-Step : goal.returns-in-Step
 returns-in-Step t c =
-    c.only-step.ensures
+    c.only_step.ensures
     ∙ first_here (fragment c.args.sheet.now.diagram) c.args.i (Fragment.Step c.in-Step.field-0) c.in-Step.is (c.requires.sound.tree.earlier c.args.i c.requires.here)
 
 pub returns-in-Seq : goal.returns-in-Seq
 returns-in-Seq t c =
     let h = subst (λ (f : Fragment). Earlier f c.args.i) c.in-Seq.is (c.requires.sound.tree.earlier c.args.i c.requires.here) in
     c.union.ensures
-    ∙ ap₂ join c.first.ensures (c.after.ensures ∙ ap₂ after (c.empty-runs.ensures.is (omega (arith, h.0))) c.first-in-Seq.ensures)
+    ∙ ap₂ join c.first.ensures (c.after.ensures ∙ ap₂ after (c.empty_runs.ensures.is (omega (arith, h.0))) c.first-in-Seq.ensures)
     ∙ first_here (fragment c.args.sheet.now.diagram) c.args.i (Seq c.in-Seq.l c.in-Seq.r) c.in-Seq.is (c.requires.sound.tree.earlier c.args.i c.requires.here)
 
 pub returns-in-Alt : goal.returns-in-Alt
@@ -28,7 +28,7 @@ returns-in-Alt t c =
 pub returns-in-Loop : goal.returns-in-Loop
 returns-in-Loop t c =
     c.after-in-Loop.ensures
-    ∙ ap₂ after (c.empty-runs-in-Loop.ensures.is c.requires.here) c.first-in-Loop.ensures
+    ∙ ap₂ after (c.empty_runs-in-Loop.ensures.is c.requires.here) c.first-in-Loop.ensures
     ∙ first_here (fragment c.args.sheet.now.diagram) c.args.i (Loop c.in-Loop.b) c.in-Loop.is (c.requires.sound.tree.earlier c.args.i c.requires.here)
 
 pub returns-in-Neg : goal.returns-in-Neg

@@ -5,4 +5,4 @@ use Rattle.followers.specs.Words.{nexts}
 use Rattle.followers.proofs.follow.enter.Goals as goal
 
 pub returns : goal.returns
-returns c = c.union.ensures ∙ ap₂ join c.first.ensures (c.after.ensures ∙ ap (λ (k : Marks). after k (nexts c.args.next)) (c.empty-runs.ensures.is c.requires.here))
+returns c = c.union.ensures ∙ ap₂ join c.first.ensures (c.after.ensures ∙ ap (λ (k : Marks). after k (nexts c.args.next)) (c.empty_runs.ensures.is c.requires.here))

@@ -13,8 +13,8 @@ take_min n l = elim (cases_lt n (length l)) [
   | inr h ↦ rw (min-eq_right h) (take_all (length l) l (omega arith) ∙ sym (take_all n l h))
 ]
 
-pub overflow-add-count : goal.overflow-add-count
-overflow-add-count g c =
+pub overflow_add-count : goal.overflow_add-count
+overflow_add-count g c =
     let within : c.loop-i.i ≤ length c.args.places.now = omega (arith, min-le_right c.args.used (length c.args.places.now)) in
     let a = tally-le-length g.T.Action.kind c.args.kind (take c.loop-i.i c.args.places.now) in
     let b = length-take-le c.loop-i.i c.args.places.now within in

@@ -1,4 +1,4 @@
-use Rattle.std.proofs.Common.{◌≡◌, ◌+◌, List, [], ◌∷◌, ◌++◌, get_or, take, replicate, sym, ap, subst, arith}
+use Rattle.std.proofs.Common.{◌≡◌, ◌+◌, [], ◌∷◌, ◌++◌, get_or, take, replicate, sym, ap, subst}
 use Rattle.action.specs.declared.deed.Deed.{Deed}
 use Rattle.action.proofs.Traces.{one_longer, all_taken}
 use Rattle.sheet.specs.Forbid.{Negative}
@@ -15,8 +15,8 @@ pub loop-d-init : goal.loop-d-init
 loop-d-init c =
     let d = c.args.sheet.now.diagram in
     let chart = c.new-chart.result in
-    first_left d c.args.sheet.now.ok (kinds_of chart) c.new-chart.ensures.kinds (follows_of chart) c.new-chart.ensures.follows c.begin-first.result.marked.end (may c.first-marks-marks.result)
-    (record { ends = decides_same _ _ (ap (λ (K : Nexts). (K end).marked) c.begin-first.ensures); steps = c.first-marks-marks.ensures })
+    first_left d c.args.sheet.now.ok (kinds_of chart) c.new-chart.ensures.kinds (follows_of chart) c.new-chart.ensures.follows c.begin-first.result.marked.end (may c.first_marks-marks.result)
+    (record { ends = decides_same _ _ (ap (λ (K : Nexts). (K end).marked) c.begin-first.ensures); steps = c.first_marks-marks.ensures })
 
 pub loop-d-preserved : goal.loop-d-preserved
 loop-d-preserved c = λ rest.

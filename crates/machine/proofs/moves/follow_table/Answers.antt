@@ -1,4 +1,4 @@
-use Rattle.std.proofs.Common.{◌≡◌, ◌<◌, ◌≢◌, sym, ap, ◌∙◌, arith, length-set, get_or-set_other, get_or-set_same, below_more}
+use Rattle.std.proofs.Common.{◌≢◌, sym, ap, ◌∙◌, arith, length-set, get_or-set_other, get_or-set_same, below_more}
 use native.Mathlib.Decide.{dec_lt}
 use Rattle.std.proofs.lemmas.List.{get_or_past}
 use Rattle.sheet.specs.Forbid.{fragment}
@@ -14,7 +14,7 @@ loop-p-preserved c = (
   length-set c.loop-p.follow c.loop-p.p _ ∙ c.loop-p.invariant.0,
   below_more _ _
       (λ k h. let ne : k ≢ c.loop-p.p = omega arith in ap nexts (get_or-set_other c.loop-p.follow c.loop-p.p k _ no_set ne) ∙ c.loop-p.invariant.1 k h)
-      (ap nexts (get_or-set_same c.loop-p.follow c.loop-p.p _ no_set (omega arith)) ∙ c.after-fragment.ensures.is),
+      (ap nexts (get_or-set_same c.loop-p.follow c.loop-p.p _ no_set (omega arith)) ∙ c.after_fragment.ensures.is),
 )
 
 pub returns : goal.returns

@@ -7,7 +7,7 @@ use Rattle.machine.specs.Pairs.{may, seen}
 use Rattle.machine.specs.Charts.{kinds, follows}
 use Rattle.machine.specs.Going.{EndsBelow, MovesBelow}
 use Rattle.machine.proofs.Steps.{none_suits, ends_up, no_ends, no_moves, ends_decided, ends_idle, moves_more, moves_idle}
-use Rattle.machine.proofs.moves.move_all.Goals.{in-Some, in-default}
+use Rattle.machine.proofs.moves.move_all.Goals.{in-Some, in_default}
 use Rattle.machine.proofs.moves.move_all.Goals as goal
 
 pub loop-p-init : goal.loop-p-init
@@ -31,11 +31,11 @@ loop-p-preserved c =
     let Ended : Bool → Type 0 = λ b. Decides b (EndsBelow F K old d (p + 1)) in
     elim c.match-suited.branch [
       | in-Some w ↦ (
-        subst Ended (sym w.ended-is) (ends_decided F K old d p w.in-Some.step w.in-Some.ensures.0 (seen w.fire-step-reached.result) w.fire-step-reached.ensures w.end-marks-there.result w.end-marks-there.ensures c.loop-p.ended w.ends-at-ended.result c.loop-p.invariant.0 w.ends-at-ended.ensures),
-        subst Marked (sym w.marks-is) (moves_more F K old d p w.in-Some.step w.in-Some.ensures.0 (seen w.fire-step-reached.result) w.fire-step-reached.ensures start (may c.loop-p.marks) (may w.spread-all.new.marks) w.spread-all.ensures c.loop-p.invariant.1),
+        subst Ended (sym w.ended-is) (ends_decided F K old d p w.in-Some.step w.in-Some.ensures.0 (seen w.fire_step-reached.result) w.fire_step-reached.ensures w.end_marks-there.result w.end_marks-there.ensures c.loop-p.ended w.ends_at-ended.result c.loop-p.invariant.0 w.ends_at-ended.ensures),
+        subst Marked (sym w.marks-is) (moves_more F K old d p w.in-Some.step w.in-Some.ensures.0 (seen w.fire_step-reached.result) w.fire_step-reached.ensures start (may c.loop-p.marks) (may w.spread_all.new.marks) w.spread_all.ensures c.loop-p.invariant.1),
       )
-      | in-default w ↦
-          let idle = none_suits (F p) d c.suited.result c.suited.ensures w.in-default.not-Some in (
+      | in_default w ↦
+          let idle = none_suits (F p) d c.suited.result c.suited.ensures w.in_default.not-Some in (
             subst Ended (sym w.ended-is) (Decides-like c.loop-p.ended (ends_up F K old d p (p + 1) (omega arith)) (ends_idle F K old d p idle) c.loop-p.invariant.0),
             subst Marked (sym w.marks-is) (moves_idle F K old d p idle start (may c.loop-p.marks) c.loop-p.invariant.1),
           )

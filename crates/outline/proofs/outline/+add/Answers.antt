@@ -40,12 +40,12 @@ returns-in-Loop t c =
     let e = accepted_earlier s.diagram s.ok i c.requires.here in
     IfOk-weaker c.add.result _ _
     (λ _ q.
-    added_one (record { depth = k; fragment = F i }) xs (lines_at F c.in-Loop.b (k + 1)) (parts_at (F i) (lines_at F) (k + 1)) c.in-ok-push.ensures.items q (sym (one_part (F i) c.in-Loop.b c.in-Loop.is (lines_at F) (k + 1)))
+    added_one (record { depth = k; fragment = F i }) xs (lines_at F c.in-Loop.b (k + 1)) (parts_at (F i) (lines_at F) (k + 1)) c.in_ok-push.ensures.items q (sym (one_part (F i) c.in-Loop.b c.in-Loop.is (lines_at F) (k + 1)))
     ∙ ap (λ l. xs ++ l) (sym (lines_is F i k e)))
     c.add.ensures
 
-pub returns-in-ok-add : goal.returns-in-ok-add
-returns-in-ok-add t c =
+pub returns-in_ok-add-in-Seq : goal.returns-in_ok-add-in-Seq
+returns-in_ok-add-in-Seq t c =
     let s = c.args.sheet.now in
     let F = fragment s.diagram in
     let i = c.args.i in
@@ -54,6 +54,6 @@ returns-in-ok-add t c =
     let e = accepted_earlier s.diagram s.ok i c.requires.here in
     IfOk-weaker c.add-in-Seq-2.result _ _
     (λ _ q.
-    added_two (record { depth = k; fragment = F i }) xs (lines_at F c.in-Seq.l (k + 1)) (lines_at F c.in-Seq.r (k + 1)) (parts_at (F i) (lines_at F) (k + 1)) c.in-ok-push.ensures.items c.in-ok-add.ensures q (sym (two_parts (F i) c.in-Seq.l c.in-Seq.r c.in-Seq.is (lines_at F) (k + 1)))
+    added_two (record { depth = k; fragment = F i }) xs (lines_at F c.in-Seq.l (k + 1)) (lines_at F c.in-Seq.r (k + 1)) (parts_at (F i) (lines_at F) (k + 1)) c.in_ok-push.ensures.items c.in_ok-add-in-Seq.ensures q (sym (two_parts (F i) c.in-Seq.l c.in-Seq.r c.in-Seq.is (lines_at F) (k + 1)))
     ∙ ap (λ l. xs ++ l) (sym (lines_is F i k e)))
     c.add-in-Seq-2.ensures

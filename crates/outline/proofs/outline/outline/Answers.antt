@@ -2,8 +2,8 @@ use Rattle.std.proofs.Common.{arith}
 use Rattle.sheet.proofs.Facts.{accepted_sizes}
 use Rattle.outline.proofs.outline.outline.Goals as goal
 
-pub overflow-sub-sheet : goal.overflow-sub-sheet
-overflow-sub-sheet c = let s = c.args.sheet.now in let q = accepted_sizes s.diagram s.ok in omega arith
+pub overflow_sub-sheet : goal.overflow_sub-sheet
+overflow_sub-sheet c = let s = c.args.sheet.now in let q = accepted_sizes s.diagram s.ok in omega arith
 
 pub add-requires : goal.add-requires
 add-requires c =

@@ -8,11 +8,11 @@ pub loop-i-init : goal.loop-i-init
 loop-i-init c = lowest_none _
 
 pub loop-i-preserved : goal.loop-i-preserved
-loop-i-preserved c = lowest_more _ _ c.loop-i.invariant (not_from_true _ (sym c.in-range.ensures ∙ c.if-not-in-range.false))
+loop-i-preserved c = lowest_more _ _ c.loop-i.invariant (not_from_true _ (sym c.in_range.ensures ∙ c.if-not-in_range.false))
 
-pub returns-then-not-in-range : goal.returns-then-not-in-range
-returns-then-not-in-range c =
-    refuse_found (λ i. FragmentRow i) _ _ _ c.loop-i.invariant (not_from_false _ (sym c.in-range.ensures ∙ c.if-not-in-range.true)) c.loop-i-test.true
+pub returns-then-not-in_range : goal.returns-then-not-in_range
+returns-then-not-in_range c =
+    refuse_found (λ i. FragmentRow i) _ _ _ c.loop-i.invariant (not_from_false _ (sym c.in_range.ensures ∙ c.if-not-in_range.true)) c.loop-i-test.true
 
 pub returns : goal.returns
 returns c = search (rules, refuse_passed)

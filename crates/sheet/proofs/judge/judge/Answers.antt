@@ -2,14 +2,13 @@ use Rattle.sheet.specs.Rules.{accepted}
 use Rattle.sheet.proofs.Facts.{header_sizes, tree_earlier}
 use Rattle.sheet.proofs.judge.judge.Goals as goal
 
-pub check-empty-requires : goal.check-empty-requires
-check-empty-requires c =
-    let s = header_sizes c.args.diagram c.in-ok-check-header.ensures in
-    record { some = s.0; few = s.1; earlier = tree_earlier c.args.diagram c.in-ok-check-tree.ensures }
+pub check_empty-requires : goal.check_empty-requires
+check_empty-requires c =
+    let s = header_sizes c.args.diagram c.in_ok-check_header.ensures in
+    record { some = s.0; few = s.1; earlier = tree_earlier c.args.diagram c.in_ok-check_tree.ensures }
 
-pub invariant-of-result : goal.invariant-of-result
+pub invariant_of-result : goal.invariant_of-result
 unfolding accepted
-invariant-of-result c = (
-  rw (← c.in-ok-check-header.ensures, ← c.in-ok-check-ranges.ensures, ← c.in-ok-check-tree.ensures, ← c.in-ok-check-steps.ensures, ← c.in-ok-check-empty.ensures),
-  tt,
-)
+invariant_of-result c = record {
+  ok = rw (← c.in_ok-check_header.ensures, ← c.in_ok-check_ranges.ensures, ← c.in_ok-check_tree.ensures, ← c.in_ok-check_steps.ensures, ← c.in_ok-check_empty.ensures);
+}

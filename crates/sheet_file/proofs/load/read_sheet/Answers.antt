@@ -6,13 +6,13 @@ use Rattle.sheet_file.specs.Sheets.{kinds_of, rows_of, rest_of, sheet_verdict, d
 use Rattle.sheet_file.proofs.Verdicts.{short_stops, header_stops, length_stops, kinds_stop, rows_stop, judge_left}
 use Rattle.sheet_file.proofs.load.read_sheet.Goals as goal
 
-pub returns-in-default : goal.returns-in-default
-returns-in-default c = let b = c.args.bytes.now in stopped_value (sheet_verdict b) (diagram_of b) _ (short_stops b (search rules))
+pub returns-in_default : goal.returns-in_default
+returns-in_default c = let b = c.args.bytes.now in stopped_value (sheet_verdict b) (diagram_of b) _ (short_stops b (search rules))
 
-pub returns-then-not-header-fits : goal.returns-then-not-header-fits
-returns-then-not-header-fits c =
+pub returns-then-not-header_fits : goal.returns-then-not-header_fits
+returns-then-not-header_fits c =
     let b = c.args.bytes.now in
-    stopped_value (sheet_verdict b) (diagram_of b) _ (header_stops b (search rules) c.if-not-header-fits.ensures)
+    stopped_value (sheet_verdict b) (diagram_of b) _ (header_stops b (search rules) c.if-not-header_fits.ensures)
 
 pub returns-then-rest-count : goal.returns-then-rest-count
 returns-then-rest-count c =
@@ -20,36 +20,36 @@ returns-then-rest-count c =
     let l : 4 ≤ length b = search rules in
     let m : length (rest_of b) ≡ 9 * get_or b 0 0 → ⊥ = c.if-rest-count.true in
     stopped_value (sheet_verdict b) (diagram_of b) _
-    (length_stops b l c.if-not-header-fits.ensures (λ e. m (simp (length-take, length-drop) (omega arith))))
+    (length_stops b l c.if-not-header_fits.ensures (λ e. m (simp (length-take, length-drop) (omega arith))))
 
 -- the length that the code has tested is the one that the rule names
 module _ (b : List ℕ) (l : 4 ≤ length b) where
   whole : length (rest_of b) ≡ 9 * get_or b 0 0 → length b ≡ 4 + 9 * get_or b 0 0
   whole e = omega (arith, simp (length-take, length-drop) at e)
 
-pub returns-in-err-check-kinds : goal.returns-in-err-check-kinds
-returns-in-err-check-kinds c =
+pub returns-in_err-check_kinds : goal.returns-in_err-check_kinds
+returns-in_err-check_kinds c =
     let b = c.args.bytes.now in
     let l : 4 ≤ length b = search rules in
-    let p = err_from_is_err_and c.from-residual.result c.from-residual.ensures.1 in
+    let p = err_from_is_err_and c.from_residual.result c.from_residual.ensures.1 in
     rw (p.1, p.2)
     (stopped_value (sheet_verdict b) (diagram_of b) _
-    (kinds_stop b l c.if-not-header-fits.ensures (whole b l c.if-rest-count.false) _ c.in-err-check-kinds.ensures))
+    (kinds_stop b l c.if-not-header_fits.ensures (whole b l c.if-rest-count.false) _ c.in_err-check_kinds.ensures))
 
-pub returns-in-err-fragments : goal.returns-in-err-fragments
-returns-in-err-fragments c =
+pub returns-in_err-fragments : goal.returns-in_err-fragments
+returns-in_err-fragments c =
     let b = c.args.bytes.now in
     let l : 4 ≤ length b = search rules in
-    let p = err_from_is_err_and c.from-residual-in-err-fragments.result c.from-residual-in-err-fragments.ensures.1 in
-    let r = value_stopped (rows_check (kinds_of b) (rows_of b)) (fragments_of (kinds_of b) (rows_of b)) _ c.in-err-fragments.ensures in
+    let p = err_from_is_err_and c.from_residual-in_err-fragments.result c.from_residual-in_err-fragments.ensures.1 in
+    let r = value_stopped (rows_check (kinds_of b) (rows_of b)) (fragments_of (kinds_of b) (rows_of b)) _ c.in_err-fragments.ensures in
     rw (p.1, p.2)
     (stopped_value (sheet_verdict b) (diagram_of b) _
-    (rows_stop b l c.if-not-header-fits.ensures (whole b l c.if-rest-count.false) _ c.in-ok-check-kinds.ensures r))
+    (rows_stop b l c.if-not-header_fits.ensures (whole b l c.if-rest-count.false) _ c.in_ok-check_kinds.ensures r))
 
 pub returns : goal.returns
 returns c =
     let b = c.args.bytes.now in
     let l : 4 ≤ length b = search rules in
-    let r = value_passed (rows_check (kinds_of b) (rows_of b)) _ (fragments_of (kinds_of b) (rows_of b)) c.in-ok-fragments.ensures in
-    let v = judge_left b l c.if-not-header-fits.ensures (whole b l c.if-rest-count.false) c.in-ok-check-kinds.ensures r.0 in
+    let r = value_passed (rows_check (kinds_of b) (rows_of b)) _ (fragments_of (kinds_of b) (rows_of b)) c.in_ok-fragments.ensures in
+    let v = judge_left b l c.if-not-header_fits.ensures (whole b l c.if-rest-count.false) c.in_ok-check_kinds.ensures r.0 in
     rw (← v) (rw r.1 at c.judge.ensures)

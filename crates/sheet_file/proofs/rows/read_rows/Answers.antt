@@ -21,19 +21,19 @@ loop-i-preserved c =
     let kinds = c.args.kinds.now in
     let rows = c.args.rows.now in
     let i = c.loop-i.i in
-    let q = value_passed (row_check i (get_or kinds i 0) (row_of rows i)) _ (fragment_of (get_or kinds i 0) (row_of rows i)) c.in-ok-fragments.ensures in (
+    let q = value_passed (row_check i (get_or kinds i 0) (row_of rows i)) _ (fragment_of (get_or kinds i 0) (row_of rows i)) c.in_ok-fragments.ensures in (
       lowest_more _ _ c.loop-i.invariant.0 (if_passed (FragmentRow i) _ q.0),
       search rules,
       filled_more (λ j. fragment_of (get_or kinds j 0) (row_of rows j)) Skip _ _ 64 _ c.loop-i.invariant.1 (omega arith) q.1 c.loop-i.invariant.2,
     )
 
-pub returns-in-err-fragments : goal.returns-in-err-fragments
-returns-in-err-fragments c =
+pub returns-in_err-fragments : goal.returns-in_err-fragments
+returns-in_err-fragments c =
     let kinds = c.args.kinds.now in
     let rows = c.args.rows.now in
     let i = c.loop-i.i in
-    let p = err_from_is_err_and c.from-residual.result c.from-residual.ensures.1 in
-    let q = if_stopped (FragmentRow i) (not (row_fits (get_or kinds i 0) (row_of rows i))) _ (value_stopped (row_check i (get_or kinds i 0) (row_of rows i)) _ _ c.in-err-fragments.ensures) in
+    let p = err_from_is_err_and c.from_residual.result c.from_residual.ensures.1 in
+    let q = if_stopped (FragmentRow i) (not (row_fits (get_or kinds i 0) (row_of rows i))) _ (value_stopped (row_check i (get_or kinds i 0) (row_of rows i)) _ _ c.in_err-fragments.ensures) in
     rw (p.1, p.2, ← q.1) (stopped_value (rows_check kinds rows) (fragments_of kinds rows) (FragmentRow i) (refuse_found (λ i. FragmentRow i) _ _ _ c.loop-i.invariant.0 q.0 c.loop-i-test.true))
 
 pub returns : goal.returns

@@ -21,12 +21,12 @@ pub loop-i-init : goal.loop-i-init
 loop-i-init c = search (rules, lowest_none)
 
 pub loop-i-preserved : goal.loop-i-preserved
-loop-i-preserved c = lowest_more _ _ c.loop-i.invariant (if_passed (TranslationRow c.loop-i.i) _ c.in-ok-check-row.ensures)
+loop-i-preserved c = lowest_more _ _ c.loop-i.invariant (if_passed (TranslationRow c.loop-i.i) _ c.in_ok-check_row.ensures)
 
-pub returns-in-err-check-row : goal.returns-in-err-check-row
-returns-in-err-check-row c =
-    let p = err_from_is_err_and c.from-residual.result c.from-residual.ensures.1 in
-    rw (p.1, p.2) (stopped (λ i. TranslationRow i) _ _ _ _ c.loop-i.invariant c.loop-i-test.true c.in-err-check-row.ensures)
+pub returns-in_err-check_row : goal.returns-in_err-check_row
+returns-in_err-check_row c =
+    let p = err_from_is_err_and c.from_residual.result c.from_residual.ensures.1 in
+    rw (p.1, p.2) (stopped (λ i. TranslationRow i) _ _ _ _ c.loop-i.invariant c.loop-i-test.true c.in_err-check_row.ensures)
 
 pub returns : goal.returns
 returns c = search (rules, refuse_passed)

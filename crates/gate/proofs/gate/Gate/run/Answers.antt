@@ -11,5 +11,5 @@ returns g c =
       ledger = e.ledger;
       decided = e.decided;
       carried = e.carried;
-      shortened = rest_never_stops (g.W.Watch.forbids c.args.self.now.watch) (g.H.Host.can c.args.self.now.host) (g.H.Host.counts c.args.self.now.host) g.Act.Action.kind (g.met.W.Watch.leaving c.args.self.now.watch) e.ledger;
+      shortened = rest_never_stops (g.W.Watch.forbids c.args.self.now.watch) (g.H.Host.can c.args.self.now.host) (g.H.Host.counts c.args.self.now.host) g.W.Act.Action.kind (g.met.W.Watch.leaving c.args.self.now.watch) e.ledger;
     }

@@ -23,7 +23,7 @@ pub returns : goal.returns
 returns g c =
     let all_of : c.loop-i.i ≡ c.min-many.result = omega arith in
     let chain = rw all_of at c.loop-i.invariant.1 in
-    let kept = chain_keeps (guarding g.W.Watch.forbids g.H.Host.can g.H.Host.counts g.H.Host.recorded g.H.Host.did g.Act.Action.kind) c.args.self.now chain in
+    let kept = chain_keeps (guarding g.W.Watch.forbids g.H.Host.can g.H.Host.counts g.H.Host.recorded g.H.Host.did g.W.Act.Action.kind) c.args.self.now chain in
     record {
       many = c.min-many.ensures;
       later = rw all_of at c.loop-i.invariant.0;

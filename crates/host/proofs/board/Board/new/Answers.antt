@@ -6,8 +6,8 @@ zeros zero k = refl
 zeros (suc n) zero = refl
 zeros (suc n) (suc k) = zeros n k
 
-pub invariant-of-result : goal.invariant-of-result
-invariant-of-result g c = (λ k h. let z = zeros 32 k in omega arith, tt)
+pub invariant_of-result : goal.invariant_of-result
+invariant_of-result g c = record { low = λ k h. let z = zeros 32 k in omega arith }
 
 pub returns : goal.returns
 returns g c = record {

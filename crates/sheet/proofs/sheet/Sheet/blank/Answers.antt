@@ -3,6 +3,6 @@ use Rattle.fault.specs.Checks.{lowest, total}
 use Rattle.sheet.specs.Rules.{accepted}
 use Rattle.sheet.proofs.sheet.Sheet.blank.Goals as goal
 
-pub invariant-of-result : goal.invariant-of-result
+pub invariant_of-result : goal.invariant_of-result
 unfolding accepted lowest total
-invariant-of-result c = (refl, tt)
+invariant_of-result c = record { ok = refl }

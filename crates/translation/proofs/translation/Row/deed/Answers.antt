@@ -12,4 +12,4 @@ made r c x y p q =
     rw (p, q, deed_made (r.address % 8) (r.signal % 32) (argument (r.first % 4) c) (argument (r.second % 4) c) (omega arith) (omega arith) (argument_low (r.first % 4) c) (argument_low (r.second % 4) c))
 
 pub returns : goal.returns
-returns c = c.ok.ensures.value ∙ ap result_ok c.from-bytes.ensures ∙ made c.args.self.now c.args.call.now _ _ c.selected-first.ensures c.selected-second.ensures
+returns c = c.ok.ensures.value ∙ ap result_ok c.from_bytes.ensures ∙ made c.args.self.now c.args.call.now _ _ c.selected-first.ensures c.selected-second.ensures

@@ -6,7 +6,7 @@ use Rattle.machine.specs.Pairs.{may}
 use Rattle.machine.specs.Charts.{kinds_of, follows_of}
 use Rattle.machine.proofs.Places.{may_out}
 use Rattle.sheet_watch.specs.Noted.{broken_all, ends_within, within_ends}
-use Rattle.sheet_watch.proofs.watch.SheetWatchWatch.bars.Goals as goal
+use Rattle.sheet_watch.proofs.watching.SheetWatchWatch.bars.Goals as goal
 
 pub returns-then-self : goal.returns-then-self
 returns-then-self c = let w = c.args.self.now in (λ _. broken_all (kinds_of w.chart) (follows_of w.chart) w.broken (may w.marks) c.if-self.true _, λ _. refl)
