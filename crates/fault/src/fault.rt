@@ -1,5 +1,5 @@
 ghost use Rattle.std.specs.Prelude.{◌≡◌};
-ghost use Rattle.fault.specs.Faults.{number as number_of_lem, place as place_of};
+ghost use Rattle.fault.specs.Faults.{number as number_of, place as place_of};
 
 /// Why an input is refused. A case with a place holds it; for the others the place is 0.
 #[derive(Clone, Copy, Debug, PartialEq, Eq)]
@@ -37,7 +37,7 @@ pub enum Fault {
 impl Fault {
     /// The number of the refusal.
     pub fn number(self) -> u8
-        ensures { result ≡ number_of_lem self }
+        ensures { result ≡ number_of self }
     {
         match self {
             Fault::SheetShort => 1,

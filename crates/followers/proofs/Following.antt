@@ -142,7 +142,7 @@ module _ (F : ℕ → Fragment) (n : ℕ) (ok : Tree F n) where
   out_case (Loop b) p i g K = g b refl _
   out_case (Neg b) p i g K = g b refl _
 
-  -- no-next comes after what is no part
+  -- no_next comes after what is no part
   out_to : (k p i : ℕ) → i < k → i < n → (Inside F i p → ⊥) → (K : Nexts) → follow_at F p i K ≡ no_next
   out_to zero p i l h no' K = let z : ⊥ = omega arith in absurd z
   out_to (suc k) p i l h no' K =

@@ -1,5 +1,5 @@
 ghost use Rattle.std.specs.Prelude.{◌≡◌};
-ghost use Rattle.gate.specs.Words.{number as number_of_lem};
+ghost use Rattle.gate.specs.Words.{number as number_of};
 
 /// The answer to an action.
 #[derive(Clone, Copy, Debug, PartialEq, Eq)]
@@ -17,7 +17,7 @@ pub enum Answer {
 impl Answer {
     /// The number of the answer.
     pub fn number(self) -> u8
-        ensures { result ≡ number_of_lem self }
+        ensures { result ≡ number_of self }
     {
         match self {
             Answer::Done => 0,

@@ -1,5 +1,5 @@
 ghost use Rattle.std.specs.Prelude.{◌≡◌};
-ghost use Rattle.host.specs.Outcomes.{number as number_of_lem};
+ghost use Rattle.host.specs.Outcomes.{number as number_of};
 
 /// What became of an action at its host.
 #[derive(Clone, Copy, Debug, PartialEq, Eq)]
@@ -13,7 +13,7 @@ pub enum Outcome {
 impl Outcome {
     /// The number of the outcome.
     pub fn number(self) -> u8
-        ensures { result ≡ number_of_lem self }
+        ensures { result ≡ number_of self }
     {
         match self {
             Outcome::Performed => 0,

@@ -4,7 +4,7 @@ ghost use Rattle.watch.specs.Meaning.{Shifted};
 use std::marker::PhantomData;
 use watch::watch::Watch;
 
-// What reaches a watch. (The checker makes no proof of an impl with a lifetime for a trait that has a law, so a lent
+// What reaches a watch. (An older checker made no proof of an impl with a lifetime for a trait that has a law, so a lent
 // watch is a watch by this detour.)
 pub(crate) trait Reaches<W: Watch> {
     // The watch that is reached.

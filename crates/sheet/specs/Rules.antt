@@ -94,7 +94,7 @@ steps_in d = total (λ i. one_if (is_step (fragment d i))) d.count
 abbrev pub steps_check : Diagram → Check
 steps_check d = refuse_if StepCount (not (steps_in d == d.steps))
 
--- the empty list is a negative trace; that this test says so is a law of `empty-at`
+-- the empty list is a negative trace; that this test says so is a law of `empty_at`
 abbrev pub empty_check : Diagram → Check
 empty_check d = refuse_if EmptyNegative (empty_at (fragment d) (root d)).marked
 

@@ -146,8 +146,8 @@ fn drawn_sheets(
     fragments: usize,
     most: usize,
 ) -> anyhow::Result<()>
-    requires le_fragments { (1 ≤ fragments) × (fragments ≤ 64) }
-    requires most_bound { most ≤ 6 }
+    requires sizes { (1 ≤ fragments) × (fragments ≤ 64) }
+    requires few { most ≤ 6 }
 {
     let mut random = Random::new(1);
     let mut tally = Tally::new();

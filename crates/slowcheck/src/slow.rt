@@ -97,7 +97,7 @@ fn skip_runs(from: &Ends, deeds: &[Deed]) -> Ends {
 }
 
 // The ends of the runs of one part and then another, over every way to split the deeds.
-#[cycle(alt_runs_loop_runs_runs_seq_runs)]
+#[cycle(running)]
 fn seq_runs(d: &Diagram, i: usize, l: usize, r: usize, from: &Ends, deeds: &[Deed]) -> Ends
     requires earlier { (l < i) × (r < i) }
 {
@@ -109,7 +109,7 @@ fn seq_runs(d: &Diagram, i: usize, l: usize, r: usize, from: &Ends, deeds: &[Dee
     ends
 }
 
-#[cycle(alt_runs_loop_runs_runs_seq_runs)]
+#[cycle(running)]
 fn alt_runs(d: &Diagram, i: usize, l: usize, r: usize, from: &Ends, deeds: &[Deed]) -> Ends
     requires earlier { (l < i) × (r < i) }
 {
@@ -119,7 +119,7 @@ fn alt_runs(d: &Diagram, i: usize, l: usize, r: usize, from: &Ends, deeds: &[Dee
 }
 
 // The ends of at most so many rounds of a body, over every way to split the deeds; a round without deeds only if it adds ends.
-#[cycle(alt_runs_loop_runs_runs_seq_runs)]
+#[cycle(running)]
 fn loop_runs(d: &Diagram, i: usize, b: usize, most: usize, from: &Ends, deeds: &[Deed]) -> Ends
     requires earlier { b < i }
     requires few { most ≤ 8 }
@@ -139,7 +139,7 @@ fn loop_runs(d: &Diagram, i: usize, b: usize, most: usize, from: &Ends, deeds: &
 }
 
 // The ends of the runs of a fragment over exactly these deeds, begun at any of `from`. A part has to stand earlier.
-#[cycle(alt_runs_loop_runs_runs_seq_runs)]
+#[cycle(running)]
 fn runs(d: &Diagram, i: usize, from: &Ends, deeds: &[Deed]) -> Ends {
     if i >= 64 || from.is_empty() {
         return Ends::none();

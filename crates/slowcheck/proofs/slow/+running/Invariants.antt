@@ -1,5 +1,5 @@
 use Rattle.std.proofs.Common.{◌+◌, ◌*◌}
-use Rattle.slowcheck.proofs.slow.+alt_runs_loop_runs_runs_seq_runs.Given as goal
+use Rattle.slowcheck.proofs.slow.+running.Given as goal
 
 abbrev pub decreases-alt_runs : goal.decreases-alt_runs
 decreases-alt_runs l = 16 * l.i
