@@ -3,8 +3,8 @@
 
 usage: tools/respell.py     in the repository's folder, once, over crates/
 
-Turns whole names alone, in specs/, proofs/ and the clauses of src/; a comment and a text in quotes stay. A name right behind
-`c.`, `l.`, `given.` or `goal.` is one that the checker made, and stays.
+Turns whole names alone, in specs/, proofs/ and src/, where only clauses have names with a dash; a comment and a text in
+quotes stay. A name right behind `c.`, `l.`, `given.` or `goal.` is one that the checker made, and stays.
 """
 import pathlib
 import re

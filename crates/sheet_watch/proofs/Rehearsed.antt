@@ -10,7 +10,7 @@ use Rattle.followers.specs.Next.{Nexts}
 use Rattle.machine.specs.Pairs.{May}
 use Rattle.machine.specs.Going.{Ends, Adds}
 use Rattle.sheet_watch.specs.Watching.{Within}
-use Rattle.sheet_watch.specs.Noted.{ends_within, within_ends, noted_on, noted_back, breaks_not}
+use Rattle.sheet_watch.proofs.Noted.{ends_within, within_ends, noted_on, noted_back, breaks_not}
 
 -- no front part of 1 to i deeds is forbidden, and now is forbidden what after i deeds was
 abbrev pub Ahead : (ℕ → Fragment) → (ℕ → Nexts) → May → List Deed → May → ℕ → Type 0

@@ -1,2 +1,2 @@
 pub mod Watching
-pub mod Noted
+pub mod Leaving

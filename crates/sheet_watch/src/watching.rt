@@ -3,7 +3,7 @@ ghost use Rattle.watch.specs.Meaning.{Alike};
 ghost use Rattle.sheet_watch.specs.Watching.{Forbidden};
 ghost use Rattle.machine.specs.Pairs.{may};
 ghost use Rattle.machine.specs.Charts.{kinds_of, follows_of};
-ghost use Rattle.sheet_watch.specs.Noted.{leaving_out};
+ghost use Rattle.sheet_watch.specs.Leaving.{leaving_out};
 
 use action::deed::Deed;
 use followers::follow::begin;

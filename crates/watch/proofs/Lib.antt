@@ -1,3 +1,4 @@
 pub mod Digits
 pub mod Tables
+pub mod Following
 pub mod Ordered

@@ -6,7 +6,7 @@ use Rattle.watch.specs.declared.order.Order.{Order}
 use Rattle.watch.specs.Meaning.{Iff, Alike, Shifted}
 use Rattle.watch.specs.Orders.{Met, Followed, member, In, Forbids, order_forbids}
 use Rattle.watch.proofs.Digits.{in_or, in_none}
-use Rattle.watch.specs.Following.{met_none, met_more, met_as, followed_none, followed_more, followed_as}
+use Rattle.watch.proofs.Following.{met_none, met_more, met_as, followed_none, followed_more, followed_as}
 
 module _ {X : Type 0} (kind : X → ℕ) where
   pub order_broken : (o : Order X) → Decides o.broken (order_forbids kind o [])

@@ -2,7 +2,7 @@
 use Rattle.std.specs.Prelude.{ℕ, List, Some, None, Option, slice_index}
 use Rattle.std.proofs.Common.{⊎_elim, inl, inr, arith}
 use Rattle.action.specs.Traces.{Sub, none, keep, skip}
-use Rattle.action.proofs.Traces.{sub_tally}
+use Rattle.action.proofs.Traces.{sub_trans, sub_tally}
 use Rattle.action.specs.declared.deed.Deed.{Deed}
 use Rattle.watch.specs.declared.cap.Cap.{Cap}
 use Rattle.watch.specs.declared.narrowed.Narrowed.{Narrowed}
@@ -10,13 +10,18 @@ use Rattle.watch.specs.declared.order.Order.{Order}
 use Rattle.watch.specs.Meaning.{LeavesOut}
 use Rattle.watch.specs.Shown.{joined, shown}
 use Rattle.watch.specs.Caps.{cap_forbids}
-use Rattle.watch.specs.Orders.{In, order_forbids}
+use Rattle.watch.specs.Orders.{In, Met, Followed, order_forbids}
 use Rattle.watch.specs.Pairs.{Either}
 use Rattle.watch.specs.Narrows.{if_with, narrowed_forbids}
-use Rattle.watch.specs.Following.{met_leaves, followed_leaves}
 
 pub cap_leaves : {X : Type 0} (kind : X → ℕ) (c : Cap X) → LeavesOut (cap_forbids kind c)
 cap_leaves kind c s l sub = ⊎_elim inl (λ over. inr (let h = sub_tally kind c.kind.value sub in omega arith))
+
+pub met_leaves : {X : Type 0} (kind : X → ℕ) (P : ℕ → Type 0) → LeavesOut (Met kind P)
+met_leaves kind P s l sub m = record { one = m.one; within = sub_trans m.within sub; such = m.such }
+
+pub followed_leaves : {X : Type 0} (kind : X → ℕ) (P : ℕ → ℕ → Type 0) → LeavesOut (Followed kind P)
+followed_leaves kind P s l sub f = record { earlier = f.earlier; later = f.later; within = sub_trans f.within sub; such = f.such }
 
 pub order_leaves : {X : Type 0} (kind : X → ℕ) (o : Order X) → LeavesOut (order_forbids kind o)
 order_leaves kind o s l sub =

@@ -5,4 +5,3 @@ pub mod Orders
 pub mod Pairs
 pub mod Narrows
 pub mod Leaving
-pub mod Following

@@ -5,7 +5,7 @@ use Rattle.machine.specs.Charts.{kinds_of, follows_of}
 use Rattle.machine.proofs.Places.{may_out}
 use Rattle.sheet_watch.specs.Watching.{Within}
 use Rattle.sheet_watch.specs.declared.watching.SheetWatch.{SheetWatch}
-use Rattle.sheet_watch.specs.Noted.{broken_all}
+use Rattle.sheet_watch.proofs.Noted.{broken_all}
 use Rattle.sheet_watch.proofs.Rehearsed.{ahead_barred, ahead_more}
 use Rattle.sheet_watch.proofs.rehearsal.rehearse.Goals as goal
 

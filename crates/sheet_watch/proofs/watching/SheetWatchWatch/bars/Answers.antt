@@ -5,7 +5,7 @@ use Rattle.sheet.specs.Empties.{has}
 use Rattle.machine.specs.Pairs.{may}
 use Rattle.machine.specs.Charts.{kinds_of, follows_of}
 use Rattle.machine.proofs.Places.{may_out}
-use Rattle.sheet_watch.specs.Noted.{broken_all, ends_within, within_ends}
+use Rattle.sheet_watch.proofs.Noted.{broken_all, ends_within, within_ends}
 use Rattle.sheet_watch.proofs.watching.SheetWatchWatch.bars.Goals as goal
 
 pub returns-then-self : goal.returns-then-self

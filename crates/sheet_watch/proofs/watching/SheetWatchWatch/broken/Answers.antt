@@ -1,6 +1,6 @@
 use Rattle.machine.specs.Pairs.{may}
 use Rattle.machine.specs.Charts.{kinds_of, follows_of}
-use Rattle.sheet_watch.specs.Noted.{within_none}
+use Rattle.sheet_watch.proofs.Noted.{within_none}
 use Rattle.sheet_watch.proofs.watching.SheetWatchWatch.broken.Goals as goal
 
 pub returns : goal.returns

@@ -5,7 +5,7 @@ use Rattle.machine.specs.Pairs.{may}
 use Rattle.machine.specs.Charts.{kinds_of, follows_of}
 use Rattle.machine.specs.Going.{Ends}
 use Rattle.machine.proofs.Places.{may_out}
-use Rattle.sheet_watch.specs.Noted.{breaks, noted_on, noted_back}
+use Rattle.sheet_watch.proofs.Noted.{breaks, noted_on, noted_back}
 use Rattle.sheet_watch.proofs.watching.SheetWatchWatch.note.Goals as goal
 
 pub returns : goal.returns

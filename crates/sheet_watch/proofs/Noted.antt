@@ -3,7 +3,7 @@ use Rattle.std.specs.Prelude.{◌≡◌, ℕ, ◌<◌, Bool, true, false, ◌||�
 use Rattle.std.proofs.Common.{sym, ◌∙◌, inl, inr}
 use Rattle.action.specs.declared.deed.Deed.{Deed}
 use Rattle.action.specs.Traces.{Sub, none, keep, skip}
-use Rattle.action.proofs.Traces.{sub_none, sub_trans}
+use Rattle.action.proofs.Traces.{sub_none}
 use Rattle.sheet.specs.declared.diagram.Fragment.{Fragment}
 use Rattle.sheet.specs.declared.diagram.Variables.{Variables}
 use Rattle.sheet.specs.Empties.{has}
@@ -17,16 +17,13 @@ use Rattle.machine.proofs.Going.{leads_on, ends_from, moves_from}
 use Rattle.sheet_watch.specs.Watching.{Within}
 
 module _ (F : ℕ → Fragment) (follow : ℕ → Nexts) where
-  -- the empty list, and leaving out
+  -- the empty list
   pub within_none : (b : Bool) (may : May) → Decides b (Within F follow b may [])
   within_none b may = (λ e. ([], move (sym e) tt, none), out)
     where
       out : Within F follow b may [] → b ≡ true
       out ([], h, s) = T_true b h
       out (d ∷ l, h, s) = elim s [ ]
-
-  pub leaving_out : (b : Bool) (may : May) (s l : List Deed) → Sub s l → Within F follow b may s → Within F follow b may l
-  leaving_out b may s l sub (k, h, t) = (k, h, sub_trans t sub)
 
   pub broken_all : (b : Bool) (may : May) → b ≡ true → (L : List Deed) → Within F follow b may L
   broken_all b may e L = ([], move (sym e) tt, sub_none L)

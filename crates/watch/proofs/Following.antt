@@ -2,8 +2,8 @@
 use Rattle.std.specs.Prelude.{ℕ, ◌⊎◌, List, [], ◌∷◌}
 use Rattle.std.proofs.Common.{inl, inr, ⊎_elim, arith}
 use Rattle.action.specs.Traces.{Sub, keep, skip}
-use Rattle.action.proofs.Traces.{sub_none, sub_trans, sub_length}
-use Rattle.watch.specs.Meaning.{Iff, LeavesOut}
+use Rattle.action.proofs.Traces.{sub_none, sub_length}
+use Rattle.watch.specs.Meaning.{Iff}
 use Rattle.watch.specs.Orders.{Met, Followed}
 
 module _ {X : Type 0} (kind : X → ℕ) where
@@ -22,9 +22,6 @@ module _ {X : Type 0} (kind : X → ℕ) where
         (λ m. record { one = m.one; within = skip m.within; such = m.such }),
   )
 
-  pub met_leaves : (P : ℕ → Type 0) → LeavesOut (Met kind P)
-  met_leaves P s l sub m = record { one = m.one; within = sub_trans m.within sub; such = m.such }
-
   pub followed_none : (P : ℕ → ℕ → Type 0) → Followed kind P [] → ⊥
   followed_none P f = omega (arith, sub_length f.within)
 
@@ -39,9 +36,6 @@ module _ {X : Type 0} (kind : X → ℕ) where
         (λ m. record { earlier = x; later = m.one; within = keep m.within; such = m.such })
         (λ f. record { earlier = f.earlier; later = f.later; within = skip f.within; such = f.such }),
   )
-
-  pub followed_leaves : (P : ℕ → ℕ → Type 0) → LeavesOut (Followed kind P)
-  followed_leaves P s l sub f = record { earlier = f.earlier; later = f.later; within = sub_trans f.within sub; such = f.such }
 
   -- another set, another table, of which the same is known
   pub met_as : (P Q : ℕ → Type 0) → ((k : ℕ) → P k → Q k) → (l : List X) → Met kind P l → Met kind Q l
