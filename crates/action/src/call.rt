@@ -15,6 +15,7 @@ pub const HIGHEST_FORM: u8 = 7;
 /// Whatever the fields hold is read as parts within the ranges.
 #[derive(Clone, Copy, Debug, PartialEq, Eq)]
 pub struct Call {
+    // Stays: bytes and no `Bounded`, as in a deed.
     family: u8,
     form: u8,
     first: u8,
@@ -24,6 +25,7 @@ pub struct Call {
 
 impl Call {
     /// The call of five bytes: family, form and three arguments; or refusal 12.
+    // Stays: no `TryFrom<&[u8]>`: callers hold arrays, which only a call by name takes for slices.
     pub fn from_bytes(bytes: &[u8]) -> Result<Call, Fault>
         ensures { result ≡ call_from bytes.now }
     {

@@ -18,6 +18,7 @@ pub const HIGHEST_ARGUMENT: u8 = 15;
 /// Whatever the fields hold is read as parts within the ranges.
 #[derive(Clone, Copy, Debug, PartialEq, Eq)]
 pub struct Deed {
+    // Stays: bytes and no `Bounded`, since definitions build deeds from any numbers and would owe a proof beside each.
     address: u8,
     signal: u8,
     first: u8,
@@ -26,6 +27,7 @@ pub struct Deed {
 
 impl Deed {
     /// The deed of four bytes: partner, signal, first and second argument; or refusal 12.
+    // Stays: no `TryFrom<&[u8]>`: callers hold arrays, which only a call by name takes for slices.
     pub fn from_bytes(bytes: &[u8]) -> Result<Deed, Fault>
         ensures { result ≡ deed_from bytes.now }
     {
@@ -47,6 +49,7 @@ impl Deed {
     }
 
     /// The deed that four numbers are read as, each within its range.
+    // Stays: four numbers, each of any size, are what a deed is read from.
     pub fn reading(address: u8, signal: u8, first: u8, second: u8) -> Deed
         ensures { result ≡ reading_of address signal first second }
     {

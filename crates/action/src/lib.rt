@@ -2,6 +2,7 @@
 #![tactic(auto)]
 
 pub mod action;
+pub mod bounded;
 mod bytes;
 pub mod call;
 pub mod deed;

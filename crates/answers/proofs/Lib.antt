@@ -1,1 +1,2 @@
 pub mod Submitting
+pub mod Mapped

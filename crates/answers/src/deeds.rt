@@ -1,5 +1,5 @@
 //! What the deeds of a list are answered under a sheet.
-ghost use Rattle.std.specs.Prelude.{◌≡◌, min, map, take, drop};
+ghost use Rattle.std.specs.Prelude.{◌≡◌, ◌≤◌, min, map, length, take, drop};
 ghost use Rattle.gate.specs.Words.{said};
 ghost use Rattle.gate.specs.Ledger.{submits};
 ghost use Rattle.answers.specs.Answered.{Answered};
@@ -14,12 +14,14 @@ use sheet::sheet::Sheet;
 use sheet_watch::watching::SheetWatch;
 
 // Each deed is submitted in turn.
-fn submit_all(deeds: &[Deed; MOST_DEEDS]) -> [Ask<Deed>; MOST_DEEDS]
-    ensures { result ≡ submits deeds.now }
+fn submit_all(deeds: &[Deed]) -> [Ask<Deed>; MOST_DEEDS]
+    requires { length deeds.now ≤ 8000 }
+    ensures { take (length deeds.now) result ≡ submits deeds.now }
 {
     let mut asks = [Ask::Count(0); MOST_DEEDS];
-    for i in 0..MOST_DEEDS {
-        asks[i] = Ask::Submit(deeds[i]);
+    for (i, deed) in deeds.iter().enumerate() {
+        // Stays: written by its number, since no clause says what a slice holds after `iter_mut`.
+        asks[i] = Ask::Submit(*deed);
     }
     asks
 }
@@ -33,22 +35,18 @@ pub struct Account {
     pub gate: Closed<Board<Deed>>,
 }
 
-/// Submits the first n of the deeds, or all where n is larger, to a new gate under the sheet and over a new board.
+/// Submits the deeds, or the first 8000 of more, to a new gate under the sheet and over a new board.
 /// Later replies keep what they held.
-pub fn answer_deeds(
-    sheet: &Sheet,
-    deeds: &[Deed; MOST_DEEDS],
-    n: usize,
-    replies: &mut [Reply; MOST_DEEDS],
-) -> Account
-    ensures many { result.many ≡ min n 8000 }
+pub fn answer_deeds(sheet: &Sheet, deeds: &[Deed], replies: &mut [Reply; MOST_DEEDS]) -> Account
+    ensures many { result.many ≡ min (length deeds.now) 8000 }
     ensures later { drop result.many replies.new ≡ drop result.many replies.old }
     ensures answered { Answered sheet.now.diagram (take result.many deeds.now) (map said (take result.many replies.new)) result.gate }
 {
-    let asks = submit_all(deeds);
-    let few = n.min(MOST_DEEDS);
+    let few = deeds.len().min(MOST_DEEDS);
+    // Stays: fixed memory and how much of it is used, since a library takes none of its own.
+    let asks = submit_all(&deeds[..few]);
     let mut gate = Gate::open(SheetWatch::new(sheet), Board::new());
-    let many = gate.run(&asks[0..few], replies);
+    let many = gate.run(&asks[..few], replies);
     Account {
         many,
         gate: gate.close(),

@@ -26,13 +26,9 @@ pub fn answer_files(
     ensures { FilesAnswered rule.now run.now result replies.old replies.new }
 {
     let mut sheet = Sheet::blank();
-    if let Err(fault) = load_sheet(rule, &mut sheet) {
-        return Err(Refused::Sheet(fault));
-    }
+    load_sheet(rule, &mut sheet).map_err(Refused::Sheet)?;
     let none = Deed::reading(0, 0, 0, 0);
     let mut deeds = [none; MOST_DEEDS];
-    match load_run(run, &mut deeds) {
-        Ok(n) => Ok(answer_deeds(&sheet, &deeds, n, replies)),
-        Err(fault) => Err(Refused::Run(fault)),
-    }
+    let n = load_run(run, &mut deeds).map_err(Refused::Run)?;
+    Ok(answer_deeds(&sheet, &deeds[..n], replies))
 }

@@ -9,6 +9,7 @@ use action::call::Call;
 use action::deed::Deed;
 use action::partner::Partner;
 use anyhow::anyhow;
+use gate::answer::Answer;
 use gate::gate::Gate;
 use host::spool::Spool;
 use sheet::sheet::Sheet;
@@ -40,8 +41,8 @@ fn time<W: Watch + Drop>(
     let start = Instant::now(rt)?;
     let mut gate = Gate::open(watch, Spool::new(places));
     let mut done = 0usize;
-    for a in actions.iter() {
-        if gate.submit(a).number() == 0 {
+    for a in actions {
+        if gate.submit(a) == Answer::Done {
             done = done.saturating_add(1);
         }
     }
@@ -54,10 +55,8 @@ fn time<W: Watch + Drop>(
 
 fn load(bytes: &[u8]) -> anyhow::Result<Sheet> {
     let mut sheet = Sheet::blank();
-    match load_sheet(bytes, &mut sheet) {
-        Ok(()) => Ok(sheet),
-        Err(_) => Err(anyhow!("the sheet is refused")),
-    }
+    load_sheet(bytes, &mut sheet).map_err(|_| anyhow!("the sheet is refused"))?;
+    Ok(sheet)
 }
 
 // Deeds of the ten signals of the ordinary sheet, none of which it forbids.
@@ -77,10 +76,7 @@ fn worst_deed(i: usize) -> Deed {
 fn ordinary_call(i: usize) -> anyhow::Result<Call> {
     let k = (i % 240) as u8;
     let first = if k % 2 == 0 { k % 8 } else { 8 + k % 8 };
-    match Call::from_bytes(&[1, k % 8, first, k % 16, 0]) {
-        Ok(call) => Ok(call),
-        Err(_) => Err(anyhow!("the call is refused")),
-    }
+    Call::from_bytes(&[1, k % 8, first, k % 16, 0]).map_err(|_| anyhow!("the call is refused"))
 }
 
 // The forms of family 1, as the signals 0 to 7.
@@ -89,81 +85,59 @@ const FORMS: [u8; 41] = [
     5, 1, 2, 0, 6, 1, 2, 0, 7, 1, 2,
 ];
 
-fn worst_deeds() -> [Deed; YEAR] {
-    let mut deeds = [Deed::reading(0, 0, 0, 0); YEAR];
-    for i in 0..YEAR {
-        deeds[i] = worst_deed(i);
-    }
-    deeds
-}
-
-fn ordinary_deeds() -> [Deed; YEAR] {
-    let mut deeds = [Deed::reading(0, 0, 0, 0); YEAR];
-    for i in 0..YEAR {
-        deeds[i] = ordinary_deed(i);
-    }
-    deeds
-}
-
-fn ordinary_calls() -> anyhow::Result<[Call; YEAR]> {
-    let none = ordinary_call(0)?;
-    let mut calls = [none; YEAR];
-    for i in 0..YEAR {
-        calls[i] = ordinary_call(i)?;
-    }
-    Ok(calls)
-}
-
 fn time_deeds(rt: &HostRuntime) -> anyhow::Result<()> {
-    let mut places = [Deed::reading(0, 0, 0, 0); YEAR];
-    let sheet = load(&worst())?;
-    let deeds = worst_deeds();
+    let heap = rt.alloc();
+    let mut places = vec![in heap; Deed::reading(0, 0, 0, 0); YEAR]?;
+    let sheet = load(worst(heap)?.as_slice())?;
+    let deeds: Vec<Deed> = (0..YEAR).map(worst_deed).collect(heap)?;
     let done = time(
         rt,
         "31 steps of one signal, a year",
         SheetWatch::new(&sheet),
-        &deeds,
-        &mut places,
+        deeds.as_slice(),
+        places.as_mut_slice(),
     )?;
     println!(rt; "31 steps of one signal: {done} deeds done")?;
-    let sheet = load(&ordinary())?;
-    let deeds = ordinary_deeds();
+    let sheet = load(ordinary(heap)?.as_slice())?;
+    let deeds: Vec<Deed> = (0..YEAR).map(ordinary_deed).collect(heap)?;
     let done = time(
         rt,
         "an ordinary sheet, a year",
         SheetWatch::new(&sheet),
-        &deeds,
-        &mut places,
+        deeds.as_slice(),
+        places.as_mut_slice(),
     )?;
     println!(rt; "an ordinary sheet: {done} deeds done")?;
+    let deeds: Vec<Deed> = (0..WEEK).map(ordinary_deed).collect(heap)?;
     let done = time(
         rt,
         "an ordinary sheet, a week",
         SheetWatch::new(&sheet),
-        &deeds[0..WEEK],
-        &mut places,
+        deeds.as_slice(),
+        places.as_mut_slice(),
     )?;
     println!(rt; "an ordinary sheet: {done} deeds done")?;
     Ok(())
 }
 
 fn time_calls(rt: &HostRuntime) -> anyhow::Result<()> {
-    let calls = ordinary_calls()?;
-    let mut places = calls;
-    let sheet = load(&ordinary())?;
+    let heap = rt.alloc();
+    let calls: Vec<Call> = (0..YEAR).map(ordinary_call).try_collect(heap)?;
+    let mut places = calls.clone()?;
+    let sheet = load(ordinary(heap)?.as_slice())?;
     let mut table = Translation::none();
-    let Ok(()) = load_translation(&FORMS, &mut table) else {
-        return Err(anyhow!("the translation is refused"));
-    };
-    let Ok(partner) = Partner::new(0) else {
-        return Err(anyhow!("the partner is refused"));
-    };
-    let Ok(cap) = Cap::new(31, 65535) else {
-        return Err(anyhow!("the cap is refused"));
-    };
+    load_translation(&FORMS, &mut table).map_err(|_| anyhow!("the translation is refused"))?;
+    let partner = Partner::try_from(0).map_err(|_| anyhow!("the partner is refused"))?;
+    let cap = Cap::new(31, 65535).map_err(|_| anyhow!("the cap is refused"))?;
     let narrowed = Narrowed::new(SheetWatch::new(&sheet), partner);
     let pile = Translated::new(Pair::new(narrowed, cap), table);
-    let done = time(rt, "a pile over calls, a year", pile, &calls, &mut places)?;
+    let done = time(
+        rt,
+        "a pile over calls, a year",
+        pile,
+        calls.as_slice(),
+        places.as_mut_slice(),
+    )?;
     println!(rt; "a pile over calls: {done} calls done")?;
     Ok(())
 }

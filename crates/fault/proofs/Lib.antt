@@ -1,2 +1,3 @@
 pub mod Lowest
 pub mod Passed
+pub mod Chunks

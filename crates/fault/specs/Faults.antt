@@ -1,5 +1,5 @@
 -- The number and the place of each refusal.
-use Rattle.std.specs.Prelude.{ℕ}
+use Rattle.std.specs.Prelude.{ℕ, List, ◌++◌, codes, decimal}
 use Rattle.fault.specs.declared.fault.Fault.{Fault}
 use Rattle.fault.specs.declared.fault.Fault.TheVariants.{SheetShort, SheetHeader, SheetLength, FragmentKind, FragmentRow, FragmentTree, StepCount, EmptyNegative, TranslationShape, TranslationRow, TranslationOrder, ActionBytes, OutOfRange, RunShape}
 
@@ -35,3 +35,7 @@ place (TranslationOrder i) = i
 place (ActionBytes i) = i
 place OutOfRange = 0
 place RunShape = 0
+
+-- how a refusal is shown
+abbrev pub words : Fault → List ℕ
+words f = decimal (number f) ++ codes " at " ++ decimal (place f)

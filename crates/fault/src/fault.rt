@@ -1,5 +1,7 @@
-ghost use Rattle.std.specs.Prelude.{◌≡◌};
-ghost use Rattle.fault.specs.Faults.{number as number_of, place as place_of};
+ghost use Rattle.std.specs.Prelude.{◌≡◌, Some};
+ghost use Rattle.fault.specs.Faults.{number as number_of, place as place_of, words};
+
+use std::fmt;
 
 /// Why an input is refused. A case with a place holds it; for the others the place is 0.
 #[derive(Clone, Copy, Debug, PartialEq, Eq)]
@@ -36,6 +38,7 @@ pub enum Fault {
 
 impl Fault {
     /// The number of the refusal.
+    // Stays: a refusal has two numbers, and `u8::from` would not say which.
     pub fn number(self) -> u8
         ensures { result ≡ number_of self }
     {
@@ -58,6 +61,7 @@ impl Fault {
     }
 
     /// The place of the refusal, 0 where none is named.
+    // Stays: as `number`.
     pub fn place(self) -> usize
         ensures { result ≡ place_of self }
     {
@@ -70,5 +74,16 @@ impl Fault {
             | Fault::ActionBytes(at) => at,
             _ => 0,
         }
+    }
+}
+
+/// Its number and its place, in words.
+impl fmt::Display for Fault {
+    ghost output = { λ f. Some (words f) };
+
+    fn fmt<W: fmt::Write>(&self, f: &mut fmt::Formatter<W>) -> fmt::Result {
+        let number = self.number();
+        let place = self.place();
+        write!(f, "{number} at {place}")
     }
 }

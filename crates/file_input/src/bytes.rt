@@ -1,6 +1,7 @@
-// Reads a file into a buffer that the caller lends.
-ghost use Rattle.std.specs.Prelude.{◌≤◌, length, IfOk};
+// Reads the front of a file.
+ghost use Rattle.std.specs.Prelude.{◌≤◌, length, vec_len, IfOk};
 
+use std::alloc::AllocError;
 use std::io::Read;
 use std::rt::Files;
 use std::{fs, io};
@@ -10,6 +11,7 @@ fn fill<F: Read>(file: &mut F, buffer: &mut [u8]) -> io::Result<usize>
     ensures { IfOk result (λ n. n ≤ length buffer.old) }
 {
     let mut filled = 0;
+    // Stays: `read_to_end` has one error for want of memory and for a failing file, and only the latter counts as empty.
     while filled < buffer.len() {
         let n = file.read(&mut buffer[filled..])?;
         if n == 0 {
@@ -20,16 +22,19 @@ fn fill<F: Read>(file: &mut F, buffer: &mut [u8]) -> io::Result<usize>
     Ok(filled)
 }
 
-// Reads the front of a file, as much as the buffer holds, and answers how many bytes that is.
-// A file that cannot be opened or read counts as empty.
-pub(crate) fn read_file<R: Files>(rt: &R, path: &str, buffer: &mut [u8]) -> usize
-    ensures { result ≤ length buffer.old }
+// The front of a file, at most so many bytes. A file that cannot be opened or read counts as empty.
+pub(crate) fn front<R: Files + AllocGlobal>(
+    rt: &R,
+    path: &str,
+    most: usize,
+) -> Result<Vec<u8>, AllocError>
+    ensures { IfOk result (λ bytes. vec_len bytes ≤ most) }
 {
-    let Ok(mut file) = fs::open(rt, path) else {
-        return 0;
-    };
-    match fill(&mut file, buffer) {
-        Ok(n) => n,
+    let mut bytes = vec![in rt.alloc(); 0; most]?;
+    let n = match fs::open(rt, path) {
+        Ok(mut file) => fill(&mut file, bytes.as_mut_slice()).unwrap_or(0),
         Err(_) => 0,
-    }
+    };
+    bytes.truncate(n);
+    Ok(bytes)
 }

@@ -1,3 +1,5 @@
+//! The folders that a program is to work in.
+use crate::tell::tell_folder;
 use std::env;
 use std::rt::Env;
 
@@ -13,4 +15,18 @@ pub fn folders<R: Env + AllocGlobal>(rt: &R) -> anyhow::Result<Vec<String>> {
         all.push(String::new(heap))?;
     }
     Ok(all)
+}
+
+/// A program that gives an account of each folder.
+pub trait Program {
+    fn account(&self, rt: &HostRuntime, folder: &str) -> anyhow::Result<()>;
+}
+
+/// Gives the account of each folder that the program is to work in, under its name, up to the first that fails.
+pub fn for_each_folder<P: Program>(rt: &HostRuntime, program: &P) -> anyhow::Result<()> {
+    for folder in folders(rt)?.iter() {
+        tell_folder(rt, folder.as_str())?;
+        program.account(rt, folder.as_str())?;
+    }
+    Ok(())
 }

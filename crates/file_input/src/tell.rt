@@ -12,7 +12,5 @@ pub fn tell_folder(rt: &impl Print, folder: &str) -> io::Result<()> {
 
 /// Tells why a file is refused: `what` names it.
 pub fn tell_refusal(rt: &impl Print, what: &str, fault: Fault) -> io::Result<()> {
-    let number = fault.number();
-    let place = fault.place();
-    println!(rt; "{what} refused {number} at {place}")
+    println!(rt; "{what} refused {fault}")
 }

@@ -4,10 +4,13 @@ use mathlib.Core.Path.{fun_ext}
 use mathlib.Core.Bool.{or-false}
 use native.Mathlib.Decide.{dec_lt, ℕ_discrete}
 use Rattle.std.proofs.lemmas.Bool.{eq-eqb, ne_eqb}
+use Rattle.sheet.specs.declared.diagram.Diagram.{Diagram}
 use Rattle.sheet.specs.declared.diagram.Fragment.{Fragment}
 use Rattle.sheet.specs.declared.diagram.Fragment.TheVariants.{Skip, Seq, Alt, Loop, Neg}
 use Rattle.sheet.specs.declared.marks.Marks.{Marks}
+use Rattle.sheet.specs.declared.sheet.Sheet.{Sheet}
 use Rattle.sheet.specs.Empties.{empty_at}
+use Rattle.sheet.specs.Forbid.{fragment}
 use Rattle.sheet.specs.Laws.{Earlier}
 use Rattle.sheet.specs.Sound.{Names, Distinct, Tree}
 use Rattle.sheet.proofs.Index.{lower_is}
@@ -284,8 +287,15 @@ module _ (F : ℕ → Fragment) (n : ℕ) (ok : Tree F n) where
   root_end h = follow_self F (n - 1) (ok.earlier (n - 1) (omega arith)) only_end
 
 -- what the code computes at a fragment of a known kind
-pub first_here : (F : ℕ → Fragment) (i : ℕ) (f : Fragment) → F i ≡ f → Earlier (F i) i → first_of f i (empty_at F) (first_at F) ≡ first_at F i
-first_here F i f e pb = ap (λ (g : Fragment). first_of g i (empty_at F) (first_at F)) (sym e) ∙ sym (first_is F i pb)
+module _ (d : Diagram) (i : ℕ) (f : Fragment) (e : f ≡ fragment d i) (pb : Earlier f i) where
+  pub first_kind : (g : Fragment) → f ≡ g → first_at (fragment d) i ≡ first_of g i (empty_at (fragment d)) (first_at (fragment d))
+  first_kind g h =
+      let F = fragment d in
+      first_is F i (subst (λ (f : Fragment). Earlier f i) e pb) ∙ ap (λ (f : Fragment). first_of f i (empty_at F) (first_at F)) (sym e ∙ h)
 
-pub follow_here : (F : ℕ → Fragment) (p i : ℕ) (f : Fragment) → F i ≡ f → Earlier (F i) i → p ≢ i → (K : Nexts) → follow_of F f i (follow_at F p) K ≡ follow_at F p i K
-follow_here F p i f e pb ne K = sym (follow_kind F p i pb ne f e K)
+  pub follow_part : (p : ℕ) → p ≢ i → (g : Fragment) → f ≡ g → (K : Nexts) → follow_at (fragment d) p i K ≡ follow_of (fragment d) g i (follow_at (fragment d) p) K
+  follow_part p ne g h K = let F = fragment d in follow_kind F p i (subst (λ (f : Fragment). Earlier f i) e pb) ne g (sym e ∙ h) K
+
+-- what is computed at one place, at another name of it
+pub same_place : {A : Type 0} → (X : (ℕ → Fragment) → ℕ → A) → {s t : Sheet} → {i j : ℕ} → s ≡ t → i ≡ j → X (fragment s.diagram) i ≡ X (fragment t.diagram) j
+same_place X e h = ap₂ (λ (s : Sheet) (i : ℕ). X (fragment s.diagram) i) e h

@@ -1,69 +1,118 @@
 //! First steps and followers, by recursions over the fragment's index.
-ghost use Rattle.std.specs.Prelude.{◌≡◌, ◌<◌, ◌≤◌};
+ghost use Rattle.std.specs.Prelude.{◌≡◌, ◌-◌, ◌<◌, ◌≤◌};
+ghost use Rattle.sheet.specs.Empties.{empty_at};
 ghost use Rattle.sheet.specs.Forbid.{fragment};
-ghost use Rattle.sheet.specs.Sound.{Sound};
+ghost use Rattle.sheet.specs.Laws.{Earlier};
 ghost use Rattle.followers.specs.Next.{no_next};
 ghost use Rattle.followers.specs.Words.{nexts};
 ghost use Rattle.followers.specs.Followers.{first_at, enter_at, again_at, follow_at, begin_of, next_after};
 
 use crate::sets::NextSet;
 use sheet::diagram::Fragment;
+use sheet::marks::Marks;
 use sheet::sheet::Sheet;
 
-// The steps that can come first in a run of the fragment i.
-pub(crate) fn first(sheet: &Sheet, i: usize) -> NextSet
-    requires sound { Sound sheet.now.diagram }
-    requires here { i < sheet.now.diagram.count }
-    ensures { nexts result ≡ first_at (fragment sheet.now.diagram) i }
-{
-    let f = sheet.diagram.fragments[i];
-    match f {
-        Fragment::Skip => NextSet::none(),
-        Fragment::Step(_) => NextSet::only_step(i),
-        Fragment::Seq(l, r) => first(sheet, l).union(first(sheet, r).after(sheet.empty_runs(l))),
-        Fragment::Alt(l, r) => first(sheet, l).union(first(sheet, r)),
-        Fragment::Loop(b) => first(sheet, b).after(sheet.empty_runs(i)),
-        Fragment::Neg(b) => first(sheet, b),
+// A fragment of a sheet.
+#[derive(Clone, Copy)]
+struct Place<'a> {
+    sheet: &'a Sheet,
+    index: usize,
+    ghost here: { index < sheet.now.diagram.count },
+}
+
+impl<'a> Place<'a> {
+    fn whole(sheet: &'a Sheet) -> Place<'a>
+        ensures sheet { result.sheet.now ≡ sheet.now }
+        ensures index { result.index ≡ sheet.now.diagram.count - 1 }
+    {
+        Place {
+            sheet,
+            index: sheet.diagram.count - 1,
+        }
     }
-}
 
-// What comes next where the fragment i begins, `next` being what comes after it.
-pub(crate) fn enter(sheet: &Sheet, i: usize, next: NextSet) -> NextSet
-    requires sound { Sound sheet.now.diagram }
-    requires here { i < sheet.now.diagram.count }
-    ensures { nexts result ≡ enter_at (fragment sheet.now.diagram) i (nexts next) }
-{
-    first(sheet, i).union(next.after(sheet.empty_runs(i)))
-}
-
-// What comes after a round of the loop i over b.
-pub(crate) fn again(sheet: &Sheet, i: usize, b: usize, next: NextSet) -> NextSet
-    requires sound { Sound sheet.now.diagram }
-    requires here { (i < sheet.now.diagram.count) × (b < sheet.now.diagram.count) }
-    ensures { nexts result ≡ again_at (fragment sheet.now.diagram) i b (nexts next) }
-{
-    next.union(first(sheet, b)).after(sheet.empty_runs(i))
-}
-
-// What may come after the part p of the fragment i, `next` being what comes after i.
-pub(crate) fn followers(sheet: &Sheet, i: usize, p: usize, next: NextSet) -> NextSet
-    requires sound { Sound sheet.now.diagram }
-    requires here { i < sheet.now.diagram.count }
-    ensures { nexts result ≡ follow_at (fragment sheet.now.diagram) p i (nexts next) }
-{
-    if p == i {
-        return next;
+    fn part(self, index: usize) -> Place<'a>
+        requires { index < self.index }
+        ensures sheet { result.sheet.now ≡ self.entry.sheet.now }
+        ensures index { result.index ≡ index }
+    {
+        Place {
+            sheet: self.sheet,
+            index,
+        }
     }
-    let f = sheet.diagram.fragments[i];
-    match f {
-        Fragment::Skip => NextSet::none(),
-        Fragment::Step(_) => NextSet::none(),
-        Fragment::Seq(l, r) => followers(sheet, l, p, enter(sheet, r, next)).union(followers(
-            sheet, r, p, next,
-        )),
-        Fragment::Alt(l, r) => followers(sheet, l, p, next).union(followers(sheet, r, p, next)),
-        Fragment::Loop(b) => followers(sheet, b, p, again(sheet, i, b, next)),
-        Fragment::Neg(b) => followers(sheet, b, p, next.marked()),
+
+    // Its parts stand earlier.
+    fn kind(self) -> Fragment
+        ensures is { result ≡ fragment self.entry.sheet.now.diagram self.entry.index }
+        ensures earlier { Earlier result self.entry.index }
+    {
+        self.sheet.diagram.fragments[self.index]
+    }
+
+    fn empty_runs(self) -> Marks
+        ensures { result ≡ empty_at (fragment self.entry.sheet.now.diagram) self.entry.index }
+    {
+        self.sheet.empty_runs(self.index)
+    }
+
+    // The steps that can come first in a run of it.
+    fn first(self) -> NextSet
+        ensures { nexts result ≡ first_at (fragment self.entry.sheet.now.diagram) self.entry.index }
+    {
+        match self.kind() {
+            Fragment::Skip => NextSet::none(),
+            Fragment::Step(_) => NextSet::only_step(self.index),
+            Fragment::Seq(l, r) => {
+                let left = self.part(l);
+                let right = self.part(r);
+                left.first().union(right.first().after(left.empty_runs()))
+            }
+            Fragment::Alt(l, r) => self.part(l).first().union(self.part(r).first()),
+            Fragment::Loop(b) => self.part(b).first().after(self.empty_runs()),
+            Fragment::Neg(b) => self.part(b).first(),
+        }
+    }
+
+    // What comes next where it begins, `next` being what comes after it.
+    fn enter(self, next: NextSet) -> NextSet
+        ensures { nexts result ≡ enter_at (fragment self.entry.sheet.now.diagram) self.entry.index (nexts next) }
+    {
+        self.first().union(next.after(self.empty_runs()))
+    }
+
+    // What comes after a round of this loop over b.
+    fn again(self, b: usize, next: NextSet) -> NextSet
+        requires { b < self.index }
+        ensures { nexts result ≡ again_at (fragment self.entry.sheet.now.diagram) self.entry.index b (nexts next) }
+    {
+        let round = next.union(self.part(b).first());
+        round.after(self.empty_runs())
+    }
+
+    // What may come after the part p of it, `next` being what comes after it.
+    fn followers(self, p: usize, next: NextSet) -> NextSet
+        ensures { nexts result ≡ follow_at (fragment self.entry.sheet.now.diagram) p self.entry.index (nexts next) }
+    {
+        if p == self.index {
+            return next;
+        }
+        match self.kind() {
+            Fragment::Skip | Fragment::Step(_) => NextSet::none(),
+            Fragment::Seq(l, r) => {
+                let left = self.part(l);
+                let right = self.part(r);
+                left.followers(p, right.enter(next))
+                    .union(right.followers(p, next))
+            }
+            Fragment::Alt(l, r) => {
+                let left = self.part(l);
+                let right = self.part(r);
+                left.followers(p, next).union(right.followers(p, next))
+            }
+            Fragment::Loop(b) => self.part(b).followers(p, self.again(b, next)),
+            Fragment::Neg(b) => self.part(b).followers(p, next.marked()),
+        }
     }
 }
 
@@ -72,7 +121,7 @@ pub fn begin(sheet: &Sheet) -> NextSet
     ensures { nexts result ≡ begin_of (fragment sheet.now.diagram) sheet.now.diagram.count }
 {
     let end = NextSet::only_end();
-    enter(sheet, sheet.diagram.count - 1, end)
+    Place::whole(sheet).enter(end)
 }
 
 /// What may come after the fragment p in a run of the sheet; nothing, where there is no such fragment.
@@ -81,5 +130,5 @@ pub fn after_fragment(sheet: &Sheet, p: usize) -> NextSet
     ensures none { sheet.now.diagram.count ≤ p → nexts result ≡ no_next }
 {
     let end = NextSet::only_end();
-    followers(sheet, sheet.diagram.count - 1, p, end)
+    Place::whole(sheet).followers(p, end)
 }

@@ -9,6 +9,7 @@ use sheet::marks::Marks;
 #[derive(Clone, Copy)]
 pub struct Targets {
     pub steps: u64,
+    // Stays: one more member of the set, and no flag for the word beside it.
     pub end: bool,
 }
 
@@ -46,6 +47,7 @@ impl Targets {
 }
 
 /// What may come next, unmarked and marked.
+// Stays: no generic pair with `Marks`: a run's marks are combined there, and here those of each target of a set.
 #[derive(Clone, Copy)]
 pub struct NextSet {
     pub plain: Targets,

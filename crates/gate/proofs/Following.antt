@@ -7,7 +7,7 @@ use Rattle.gate.specs.declared.ask.Ask.{Ask}
 use Rattle.gate.specs.declared.gate.Gate.{Gate}
 use Rattle.gate.specs.Words.{Word, count_word}
 use Rattle.gate.specs.Ledger.{Ledger, Says, Replies, to_submit, to_query, to_count, done_of, after, opening, Runs, end, next}
-use Rattle.gate.specs.Chains.{Guarding, Submitted, Asked, submit, query, count, Chain, end as chain_end, next as ChainNext}
+use Rattle.gate.specs.Chains.{Guarding, known, Submitted, Asked, submit, query, count, Chain, end as chain_end, next as ChainNext}
 use Rattle.gate.specs.Promise.{RepliesAsLedger, Steps, none, more, Carried, Kept}
 use Rattle.gate.proofs.Ledgers.{says_elim, says_on, runs_done, runs_decide}
 
@@ -81,12 +81,12 @@ module _ {W H X : Type 0} (m : Guarding W H X) (v : Gate W H) where
   abbrev Going : Ledger X → Gate W H → Type 0
   Going L h = Follows L.done h × (h.stopped ≡ L.stopped)
 
-  follow_one : (L : Ledger X) {g h : Gate W H} {a : Ask X} {w : Word} → Going L g → Asked m g a w h → Replies (m.forbids v.watch) (m.host.can v.host) (m.host.counts v.host) m.host.kind L a w × Going (after L a w) h
+  follow_one : (L : Ledger X) {g h : Gate W H} {a : Ask X} {w : Word} → Going L g → Asked m g a w h → Replies (known m v.watch v.host) L a w × Going (after L a w) h
   follow_one L f (submit {g = g} {h = h} {x = x} {n = n} s) = (to_submit (says_so L.done L.stopped g x n f.0 f.1 s.says), (on_submit L.done g h x n f.0 s, s.stop ∙ ap (λ b. cond (eqb n 21) true b) f.1))
   follow_one L f (query {g = g} {x = x} {n = n} s) = (to_query (says_so L.done L.stopped g x n f.0 f.1 s), (stays L.done g g f.0 refl refl, f.1))
   follow_one L f (count {g = g} {k = k} e) = (to_count (e ∙ ap (count_word k) (f.0.carried.counted k)), (stays L.done g g f.0 refl refl, f.1))
 
-  follow_all : (L : Ledger X) {g h : Gate W H} {qs : List (Ask X)} {ws : List Word} → Going L g → Chain m g qs ws h → (M : Ledger X) × Runs (m.forbids v.watch) (m.host.can v.host) (m.host.counts v.host) m.host.kind L qs ws M × Going M h
+  follow_all : (L : Ledger X) {g h : Gate W H} {qs : List (Ask X)} {ws : List Word} → Going L g → Chain m g qs ws h → (M : Ledger X) × Runs (known m v.watch v.host) L qs ws M × Going M h
   follow_all L f chain_end = (L, end, f)
   follow_all L f (ChainNext {a = a} {w = w} c cs) =
       let one = follow_one L f c in
@@ -99,8 +99,8 @@ module _ {W H X : Type 0} (m : Guarding W H X) (v : Gate W H) where
       let all = follow_all (opening v.stopped) (begins, refl) cs in
       let done-is = runs_done all.1 in
       let as-ledger : RepliesAsLedger m v qs ws h =
-      subst (λ b. Runs (m.forbids v.watch) (m.host.can v.host) (m.host.counts v.host) m.host.kind (opening v.stopped) qs ws (record { done = done_of qs ws; stopped = b })) (sym all.2.1)
-      (subst (λ d. Runs (m.forbids v.watch) (m.host.can v.host) (m.host.counts v.host) m.host.kind (opening v.stopped) qs ws (record { done = d; stopped = all.0.stopped })) done-is all.1) in
+      subst (λ b. Runs (known m v.watch v.host) (opening v.stopped) qs ws (record { done = done_of qs ws; stopped = b })) (sym all.2.1)
+      (subst (λ d. Runs (known m v.watch v.host) (opening v.stopped) qs ws (record { done = d; stopped = all.0.stopped })) done-is all.1) in
       record {
         ledger = as-ledger;
         decided = runs_decide as-ledger;

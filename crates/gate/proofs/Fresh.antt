@@ -5,15 +5,15 @@ use Rattle.gate.specs.declared.ask.Ask.{Ask}
 use Rattle.gate.specs.declared.gate.Gate.{Gate}
 use Rattle.gate.specs.Words.{Word}
 use Rattle.gate.specs.Ledger.{opening, Runs, done_of}
-use Rattle.gate.specs.Chains.{Guarding}
+use Rattle.gate.specs.Chains.{Guarding, known}
 use Rattle.gate.specs.Promise.{RepliesAsLedger, RepliesAsFresh, BarsAndDoesExactly, CarriesDone, Carried, RestNeverStops}
 use Rattle.gate.proofs.Ledgers.{runs_stop, runs_alike}
 
 module _ {W H X : Type 0} (m : Guarding W H X) (w : W) (o : H) (g h : Gate W H) (is : g ≡ record { watch = w; host = o; stopped = false }) where
-  pub fresh_ledger : {qs : List (Ask X)} {ws : List Word} → RepliesAsLedger m g qs ws h → RepliesAsFresh (m.forbids w) (m.host.can o) (m.host.counts o) m.host.kind qs ws
+  pub fresh_ledger : {qs : List (Ask X)} {ws : List Word} → RepliesAsLedger m g qs ws h → RepliesAsFresh (known m w o) qs ws
   fresh_ledger {qs = qs} {ws = ws} all =
       let from-opening = subst (λ k. RepliesAsLedger m k qs ws h) is all in
-      subst (λ b. Runs (m.forbids w) (m.host.can o) (m.host.counts o) m.host.kind (opening false) qs ws (record { done = done_of qs ws; stopped = b })) (runs_stop from-opening) from-opening
+      subst (λ b. Runs (known m w o) (opening false) qs ws (record { done = done_of qs ws; stopped = b })) (runs_stop from-opening) from-opening
 
   pub fresh_decided : {qs : List (Ask X)} {ws : List Word} → BarsAndDoesExactly (m.forbids g.watch) (m.host.can g.host) g.stopped qs ws → BarsAndDoesExactly (m.forbids w) (m.host.can o) false qs ws
   fresh_decided {qs = qs} {ws = ws} all = subst (λ (k : Gate W H). BarsAndDoesExactly (m.forbids k.watch) (m.host.can k.host) k.stopped qs ws) is all

@@ -6,7 +6,7 @@ use Rattle.watch.specs.Meaning.{Iff, Alike}
 use Rattle.gate.specs.declared.ask.Ask.{Ask}
 use Rattle.gate.specs.declared.ask.Ask.TheVariants.{Submit}
 use Rattle.gate.specs.Words.{Word, answer, count_word}
-use Rattle.gate.specs.Ledger.{Ledger, refuse, is_stopped, is_barred, is_passed, is_done, is_declined, Says, by_watch, by_host, Replies, to_submit, to_query, to_count, done_one, done_of, stop_of, Runs, end, next}
+use Rattle.gate.specs.Ledger.{Ledger, refuse, is_stopped, is_barred, is_passed, is_done, is_declined, Says, by_watch, by_host, Known, Replies, to_submit, to_query, to_count, done_one, done_of, stop_of, Runs, end, next}
 use Rattle.gate.specs.Promise.{At, DecidedAt, BarsAndDoesExactly, Compose}
 
 -- every split by the four answers goes by this
@@ -41,47 +41,47 @@ decided_at F C d s x n says = record {
   stopped = λ h. says_elim says (λ _ t _ _. absurd (both_ways s t h)) (λ z _. z) (λ _ t _. absurd (both_ways s t h)) (λ _ t _ _. absurd (both_ways s t h));
 }
 
-module _ {X : Type 0} {F C : List X → Type 0} {n : ℕ → ℕ} {kind : X → ℕ} where
+module _ {X : Type 0} {K : Known X} where
   -- what is done is told by the asks and the replies
-  pub runs_done : {L M : Ledger X} {qs : List (Ask X)} {ws : List Word} → Runs F C n kind L qs ws M → M.done ≡ L.done ++ done_of qs ws
+  pub runs_done : {L M : Ledger X} {qs : List (Ask X)} {ws : List Word} → Runs K L qs ws M → M.done ≡ L.done ++ done_of qs ws
   runs_done (end {L = L}) = sym (append-nil L.done)
   runs_done (next {L = L} {a = a} {w = w} {qs = qs} {ws = ws} r t) = runs_done t ∙ append_assoc L.done (done_one a w) (done_of qs ws)
 
-  pub runs_stop : {L M : Ledger X} {qs : List (Ask X)} {ws : List Word} → Runs F C n kind L qs ws M → M.stopped ≡ stop_of L.stopped qs ws
+  pub runs_stop : {L M : Ledger X} {qs : List (Ask X)} {ws : List Word} → Runs K L qs ws M → M.stopped ≡ stop_of L.stopped qs ws
   runs_stop end = refl
   runs_stop (next r t) = runs_stop t
 
-  reply_says : {L : Ledger X} {a : Ask X} {w : Word} (x : X) (k : ℕ) → Replies F C n kind L a w → a ≡ Submit x → w ≡ answer k → Says F C L.done L.stopped x k
+  reply_says : {L : Ledger X} {a : Ask X} {w : Word} (x : X) (k : ℕ) → Replies K L a w → a ≡ Submit x → w ≡ answer k → Says K.forbids K.can L.done L.stopped x k
   reply_says {L = L} x k (to_submit {x = y} {m = j} s) e f =
       let same-x : y ≡ x = cc in
       let same-k : j ≡ k = cc in
-      subst (λ u. Says F C L.done L.stopped u k) same-x (subst (λ u. Says F C L.done L.stopped y u) same-k s)
+      subst (λ u. Says K.forbids K.can L.done L.stopped u k) same-x (subst (λ u. Says K.forbids K.can L.done L.stopped y u) same-k s)
   reply_says x k (to_query s) e f = let z : ◌≡◌ {A = ℕ} 0 1 = cc in absurd (omega arith)
   reply_says x k (to_count s) e f = let z : ◌≡◌ {A = ℕ} 0 1 = cc in absurd (omega arith)
 
-  runs_at : {L M : Ledger X} {qs : List (Ask X)} {ws : List Word} → Runs F C n kind L qs ws M → (i : ℕ) (x : X) (k : ℕ) → At i qs (Submit x) → At i ws (answer k) → Says F C (L.done ++ done_of (take i qs) (take i ws)) (stop_of L.stopped (take i qs) (take i ws)) x k
+  runs_at : {L M : Ledger X} {qs : List (Ask X)} {ws : List Word} → Runs K L qs ws M → (i : ℕ) (x : X) (k : ℕ) → At i qs (Submit x) → At i ws (answer k) → Says K.forbids K.can (L.done ++ done_of (take i qs) (take i ws)) (stop_of L.stopped (take i qs) (take i ws)) x k
   runs_at end i x k p q = absurd p
   runs_at (next {L = L} r t) zero x k p q = rw (append-nil L.done) (reply_says x k r p q)
   runs_at (next {L = L} {a = a} {w = w} {qs = qs} {ws = ws} r t) (suc i) x k p q = rw (← append_assoc L.done (done_one a w) (done_of (take i qs) (take i ws))) (runs_at t i x k p q)
 
   -- a run decides each submitted action in the words of the promise
-  pub runs_decide : {s : Bool} {M : Ledger X} {qs : List (Ask X)} {ws : List Word} → Runs F C n kind (record { done = []; stopped = s }) qs ws M → BarsAndDoesExactly F C s qs ws
-  runs_decide all i x k p q = decided_at F C _ _ x k (runs_at all i x k p q)
+  pub runs_decide : {s : Bool} {M : Ledger X} {qs : List (Ask X)} {ws : List Word} → Runs K (record { done = []; stopped = s }) qs ws M → BarsAndDoesExactly K.forbids K.can s qs ws
+  runs_decide all i x k p q = decided_at K.forbids K.can _ _ x k (runs_at all i x k p q)
 
-  runs_join : {L M N : Ledger X} {ps qs : List (Ask X)} {vs ws : List Word} → Runs F C n kind L ps vs M → Runs F C n kind M qs ws N → Runs F C n kind L (ps ++ qs) (vs ++ ws) N
+  runs_join : {L M N : Ledger X} {ps qs : List (Ask X)} {vs ws : List Word} → Runs K L ps vs M → Runs K M qs ws N → Runs K L (ps ++ qs) (vs ++ ws) N
   runs_join end t = t
   runs_join (next r s) t = next r (runs_join s t)
 
-  pub compose : Compose F C n kind
+  pub compose : Compose K
   compose L M N ps qs vs ws p q = runs_join p q
 
 -- the same run by meanings that hold of the same lists, and equal counts
-module _ {X : Type 0} {F C : List X → Type 0} {n : ℕ → ℕ} {kind : X → ℕ} (G D : List X → Type 0) (o : ℕ → ℕ) (same-F : Alike F G) (same-C : Alike C D) (same-n : (k : ℕ) → n k ≡ o k) where
-  reply_alike : {L : Ledger X} {a : Ask X} {w : Word} → Replies F C n kind L a w → Replies G D o kind L a w
+module _ {X : Type 0} {K : Known X} (G D : List X → Type 0) (o : ℕ → ℕ) (same-F : Alike K.forbids G) (same-C : Alike K.can D) (same-n : (k : ℕ) → K.counts k ≡ o k) where
+  reply_alike : {L : Ledger X} {a : Ask X} {w : Word} → Replies K L a w → Replies (record { forbids = G; can = D; counts = o; kind = K.kind }) L a w
   reply_alike {L = L} (to_submit {x = x} s) = to_submit (says_on (same-F (L.done ++ (x ∷ []))) (same-C (L.done ++ (x ∷ []))) refl s)
   reply_alike {L = L} (to_query {x = x} s) = to_query (says_on (same-F (L.done ++ (x ∷ []))) (same-C (L.done ++ (x ∷ []))) refl s)
-  reply_alike {L = L} (to_count {k = k} e) = to_count (e ∙ ap (λ c. count_word k (c + tally kind k L.done)) (same-n k))
+  reply_alike {L = L} (to_count {k = k} e) = to_count (e ∙ ap (λ c. count_word k (c + tally K.kind k L.done)) (same-n k))
 
-  pub runs_alike : {L M : Ledger X} {qs : List (Ask X)} {ws : List Word} → Runs F C n kind L qs ws M → Runs G D o kind L qs ws M
+  pub runs_alike : {L M : Ledger X} {qs : List (Ask X)} {ws : List Word} → Runs K L qs ws M → Runs (record { forbids = G; can = D; counts = o; kind = K.kind }) L qs ws M
   runs_alike end = end
   runs_alike (next r t) = next (reply_alike r) (runs_alike t)

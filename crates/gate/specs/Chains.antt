@@ -1,20 +1,28 @@
 -- What one ask changes at a gate, and chains of asks.
-use Rattle.std.specs.Prelude.{◌≡◌, ℕ, true, cond, List, [], ◌∷◌, ◌++◌, Option, ◌==◌, ◌≢◌}
+use Rattle.std.specs.Prelude.{◌≡◌, ℕ, true, cond, List, [], ◌∷◌, ◌++◌, ◌==◌, ◌≢◌}
+use Rattle.action.specs.declared.action.Action.{Ghosts as ActionMembers}
+use Rattle.watch.specs.declared.watch.Watch.{Ghosts as WatchMembers}
 use Rattle.watch.specs.Meaning.{Shifted}
+use Rattle.host.specs.declared.host.Host.{Ghosts as HostMembers}
 use Rattle.host.specs.Hosting.{Hosting, Performs}
+use Rattle.host.specs.Meaning.{hosting}
 use Rattle.gate.specs.declared.ask.Ask.{Ask}
 use Rattle.gate.specs.declared.ask.Ask.TheVariants.{Submit, Query, Count}
 use Rattle.gate.specs.declared.gate.Gate.{Gate}
 use Rattle.gate.specs.Words.{Word, answer, count_word}
-use Rattle.gate.specs.Ledger.{Says}
+use Rattle.gate.specs.Ledger.{Says, Known}
 
 -- what the watches W and the hosts H of gates mean
 pub record Guarding (W H X : Type 0) : Type 1 where
   pub forbids : W → List X → Type 0
   pub host : Hosting H X
 
-abbrev pub guarding : {W H X : Type 0} → (W → List X → Type 0) → (H → List X → Type 0) → (H → ℕ → ℕ) → (H → Option (List X)) → (H → X → H → Type 0) → (X → ℕ) → Guarding W H X
-guarding forbids can counts recorded did kind = record { forbids = forbids; host = record { can = can; counts = counts; recorded = recorded; did = did; kind = kind } }
+abbrev pub guarding : {W H X : Type 0} → WatchMembers W X → HostMembers H X → ActionMembers X → Guarding W H X
+guarding w h a = record { forbids = w.forbids; host = hosting h a }
+
+-- what a ledger of a gate knows that is opened over a watch and a host
+abbrev pub known : {W H X : Type 0} → Guarding W H X → W → H → Known X
+known m w h = record { forbids = m.forbids w; can = m.host.can h; counts = m.host.counts h; kind = m.host.kind }
 
 -- x was submitted at g and answered n, which left h: where it is done, the watch noted it and the host did it;
 -- on any other answer both are the same values

@@ -35,11 +35,19 @@ pub data Says {X : Type 0} (F C : List X → Type 0) (d : List X) (s : Bool) (x 
   by_watch : WatchSays F d s x (refuse n) → Says F C d s x n
   by_host : WatchSays F d s x pass → HostSays C d x n → Says F C d s x n
 
--- the reply to an ask, where the counts were n at opening
-pub data Replies {X : Type 0} (F C : List X → Type 0) (n : ℕ → ℕ) (kind : X → ℕ) (L : Ledger X) : Ask X → Word → Type 0 where
-  to_submit : {x : X} {m : ℕ} → Says F C L.done L.stopped x m → Replies F C n kind L (Submit x) (answer m)
-  to_query : {x : X} {m : ℕ} → Says F C L.done L.stopped x m → Replies F C n kind L (Query x) (answer m)
-  to_count : {k : ℕ} {w : Word} → w ≡ count_word k (n k + tally kind k L.done) → Replies F C n kind L (Count k) w
+-- what a ledger knows: the lists that are forbidden, the lists that can be done and the counts, as the gate was opened,
+-- and the kind of an action
+pub record Known (X : Type 0) : Type 1 where
+  pub forbids : List X → Type 0
+  pub can : List X → Type 0
+  pub counts : ℕ → ℕ
+  pub kind : X → ℕ
+
+-- the reply to an ask
+pub data Replies {X : Type 0} (K : Known X) (L : Ledger X) : Ask X → Word → Type 0 where
+  to_submit : {x : X} {m : ℕ} → Says K.forbids K.can L.done L.stopped x m → Replies K L (Submit x) (answer m)
+  to_query : {x : X} {m : ℕ} → Says K.forbids K.can L.done L.stopped x m → Replies K L (Query x) (answer m)
+  to_count : {k : ℕ} {w : Word} → w ≡ count_word k (K.counts k + tally K.kind k L.done) → Replies K L (Count k) w
 
 -- what one ask and its reply have done: a submitted action that is answered 0
 abbrev pub done_one : {X : Type 0} → Ask X → Word → List X
@@ -72,9 +80,9 @@ abbrev pub after : {X : Type 0} → Ledger X → Ask X → Word → Ledger X
 after L a w = record { done = L.done ++ done_one a w; stopped = stop_one L.stopped a w }
 
 -- any list of asks, from one ledger to another
-pub data Runs {X : Type 0} (F C : List X → Type 0) (n : ℕ → ℕ) (kind : X → ℕ) : Ledger X → List (Ask X) → List Word → Ledger X → Type 0 where
-  end : {L : Ledger X} → Runs F C n kind L [] [] L
-  next : {L M : Ledger X} {a : Ask X} {w : Word} {qs : List (Ask X)} {ws : List Word} → Replies F C n kind L a w → Runs F C n kind (after L a w) qs ws M → Runs F C n kind L (a ∷ qs) (w ∷ ws) M
+pub data Runs {X : Type 0} (K : Known X) : Ledger X → List (Ask X) → List Word → Ledger X → Type 0 where
+  end : {L : Ledger X} → Runs K L [] [] L
+  next : {L M : Ledger X} {a : Ask X} {w : Word} {qs : List (Ask X)} {ws : List Word} → Replies K L a w → Runs K (after L a w) qs ws M → Runs K L (a ∷ qs) (w ∷ ws) M
 
 abbrev pub submits : {X : Type 0} → List X → List (Ask X)
 submits [] = []

@@ -7,16 +7,16 @@ use Rattle.gate.specs.declared.ask.Ask.{Ask}
 use Rattle.gate.specs.declared.ask.Ask.TheVariants.{Submit}
 use Rattle.gate.specs.declared.gate.Gate.{Gate}
 use Rattle.gate.specs.Words.{Word, answer}
-use Rattle.gate.specs.Ledger.{Ledger, opening, Runs, done_of, stop_of, submits}
-use Rattle.gate.specs.Chains.{Guarding}
+use Rattle.gate.specs.Ledger.{Ledger, Known, opening, Runs, done_of, stop_of, submits}
+use Rattle.gate.specs.Chains.{Guarding, known}
 
 -- every reply and the stop are the ledger's
 abbrev pub RepliesAsLedger : {W H X : Type 0} → Guarding W H X → Gate W H → List (Ask X) → List Word → Gate W H → Type 0
-RepliesAsLedger m g qs ws h = Runs (m.forbids g.watch) (m.host.can g.host) (m.host.counts g.host) m.host.kind (opening g.stopped) qs ws (record { done = done_of qs ws; stopped = h.stopped })
+RepliesAsLedger m g qs ws h = Runs (known m g.watch g.host) (opening g.stopped) qs ws (record { done = done_of qs ws; stopped = h.stopped })
 
--- the same of a gate that is gone: it was opened over F, C and the counts n
-abbrev pub RepliesAsFresh : {X : Type 0} → (List X → Type 0) → (List X → Type 0) → (ℕ → ℕ) → (X → ℕ) → List (Ask X) → List Word → Type 0
-RepliesAsFresh F C n kind qs ws = Runs F C n kind (opening false) qs ws (record { done = done_of qs ws; stopped = stop_of false qs ws })
+-- the same of a gate that is gone, and was opened over what K knows
+abbrev pub RepliesAsFresh : {X : Type 0} → Known X → List (Ask X) → List Word → Type 0
+RepliesAsFresh K qs ws = Runs K (opening false) qs ws (record { done = done_of qs ws; stopped = stop_of false qs ws })
 
 -- y stands at the place i of a list
 abbrev pub At : {Y : Type 0} → ℕ → List Y → Y → Type 0
@@ -52,13 +52,13 @@ abbrev pub CarriesDone : {W H X : Type 0} → Guarding W H X → Gate W H → Li
 CarriesDone m g d h = Carried m.host g.host d h.host
 
 -- no ledger run over the submits of a part of d ends stopped
-abbrev pub NeverStops : {X : Type 0} → (List X → Type 0) → (List X → Type 0) → (ℕ → ℕ) → (X → ℕ) → List X → Type 0
-NeverStops {X} F C n kind d = (rest : List X) (ws : List Word) (M : Ledger X) → Sub rest d → Runs F C n kind (opening false) (submits rest) ws M → M.stopped ≡ false
+abbrev pub NeverStops : {X : Type 0} → Known X → List X → Type 0
+NeverStops {X} K d = (rest : List X) (ws : List Word) (M : Ledger X) → Sub rest d → Runs K (opening false) (submits rest) ws M → M.stopped ≡ false
 
 -- whichever of the actions d are left out, the rest never stops a gate whose watch forbids what F holds of, at any host
 pub record RestNeverStops {X : Type 0} (F : List X → Type 0) (kind : X → ℕ) (d : List X) : Type 0 where
-  pub same : (C : List X → Bool) (n : ℕ → ℕ) → NeverStops F (λ l. T (C l)) n kind d
-  pub alike : (G : List X → Bool) → Alike (λ l. T (G l)) F → (C : List X → Bool) (n : ℕ → ℕ) → NeverStops (λ l. T (G l)) (λ l. T (C l)) n kind d
+  pub same : (C : List X → Bool) (n : ℕ → ℕ) → NeverStops (record { forbids = F; can = λ l. T (C l); counts = n; kind = kind }) d
+  pub alike : (G : List X → Bool) → Alike (λ l. T (G l)) F → (C : List X → Bool) (n : ℕ → ℕ) → NeverStops (record { forbids = λ l. T (G l); can = λ l. T (C l); counts = n; kind = kind }) d
 
 -- the promise that needs no leaving-out law
 pub record Kept {W H X : Type 0} (m : Guarding W H X) (g : Gate W H) (qs : List (Ask X)) (ws : List Word) (h : Gate W H) : Type 0 where
@@ -67,9 +67,9 @@ pub record Kept {W H X : Type 0} (m : Guarding W H X) (g : Gate W H) (qs : List 
   pub carried : CarriesDone m g (done_of qs ws) h
 
 -- two ledgers that begin alike give the same replies, done actions and stop
-abbrev pub SameLedgers : {X : Type 0} → (List X → Type 0) → (List X → Type 0) → (ℕ → ℕ) → (List X → Type 0) → (List X → Type 0) → (ℕ → ℕ) → (X → ℕ) → Type 0
-SameLedgers {X} F C n G D o kind = (L M N : Ledger X) (qs : List (Ask X)) (ws vs : List Word) → Runs F C n kind L qs ws M → Runs G D o kind L qs vs N → (ws ≡ vs) × (M ≡ N)
+abbrev pub SameLedgers : {X : Type 0} → Known X → Known X → Type 0
+SameLedgers {X} J K = (L M N : Ledger X) (qs : List (Ask X)) (ws vs : List Word) → Runs J L qs ws M → Runs K L qs vs N → (ws ≡ vs) × (M ≡ N)
 
 -- one run after another is a run
-abbrev pub Compose : {X : Type 0} → (List X → Type 0) → (List X → Type 0) → (ℕ → ℕ) → (X → ℕ) → Type 0
-Compose {X} F C n kind = (L M N : Ledger X) (ps qs : List (Ask X)) (vs ws : List Word) → Runs F C n kind L ps vs M → Runs F C n kind M qs ws N → Runs F C n kind L (ps ++ qs) (vs ++ ws) N
+abbrev pub Compose : {X : Type 0} → Known X → Type 0
+Compose {X} K = (L M N : Ledger X) (ps qs : List (Ask X)) (vs ws : List Word) → Runs K L ps vs M → Runs K M qs ws N → Runs K L (ps ++ qs) (vs ++ ws) N

@@ -16,6 +16,7 @@ pub enum Answer {
 
 impl Answer {
     /// The number of the answer.
+    // Stays: a name, and no `From`, which would not say what the number is.
     pub fn number(self) -> u8
         ensures { result ≡ number_of self }
     {

@@ -8,6 +8,7 @@ use host::host::Host;
 #[derive(Drop)]
 pub struct Closed<H> {
     host: H,
+    // Stays: as in a gate.
     stopped: bool,
 }
 
@@ -20,6 +21,7 @@ impl<H: Host> Closed<H> {
     }
 
     /// The host's count of a kind, or refusal 13.
+    // Stays: any number may be asked about, as at a host.
     pub fn count(&self, kind: u8) -> Result<u64, Fault>
         ensures { result ≡ count_of kind (H.Host.counts self.now.host kind) }
     {

@@ -18,6 +18,7 @@ use watch::watch::Watch;
 pub struct Gate<W, H> {
     watch: W,
     host: H,
+    // Stays: a fact beside the host and no state of it: a stopped gate still counts and gives the host back.
     stopped: bool,
 }
 
@@ -35,7 +36,7 @@ impl<W: Watch, H: Host<Act = W::Act>> Gate<W, H> {
 
     /// Has the host do an action, unless the gate is stopped, the watch bars it or the host cannot.
     pub fn submit(&mut self, a: &W::Act) -> Answer
-        ensures { Asked (guarding W.Watch.forbids H.Host.can H.Host.counts H.Host.recorded H.Host.did W.Act.Action.kind) self.old (Ask.Submit a.now) (answer (number result)) self.new }
+        ensures { Asked (guarding W.Watch H.Host W.Act.Action) self.old (Ask.Submit a.now) (answer (number result)) self.new }
     {
         if self.stopped {
             return Answer::Stopped;
@@ -55,7 +56,7 @@ impl<W: Watch, H: Host<Act = W::Act>> Gate<W, H> {
 
     /// What `submit` would answer.
     pub fn query(&self, a: &W::Act) -> Answer
-        ensures { Asked (guarding W.Watch.forbids H.Host.can H.Host.counts H.Host.recorded H.Host.did W.Act.Action.kind) self.now (Ask.Query a.now) (answer (number result)) self.now }
+        ensures { Asked (guarding W.Watch H.Host W.Act.Action) self.now (Ask.Query a.now) (answer (number result)) self.now }
     {
         if self.stopped {
             Answer::Stopped
@@ -69,15 +70,16 @@ impl<W: Watch, H: Host<Act = W::Act>> Gate<W, H> {
     }
 
     /// The host's count of a kind, or refusal 13.
+    // Stays: any number may be asked about, as at a host.
     pub fn count(&self, kind: u8) -> Result<u64, Fault>
-        ensures { Asked (guarding W.Watch.forbids H.Host.can H.Host.counts H.Host.recorded H.Host.did W.Act.Action.kind) self.now (Ask.Count kind) (told result) self.now }
+        ensures { Asked (guarding W.Watch H.Host W.Act.Action) self.now (Ask.Count kind) (told result) self.now }
     {
         self.host.count(kind)
     }
 
     // Replies to one ask.
     fn reply(&mut self, ask: &Ask<W::Act>) -> Reply
-        ensures { Asked (guarding W.Watch.forbids H.Host.can H.Host.counts H.Host.recorded H.Host.did W.Act.Action.kind) self.old ask.now (said result) self.new }
+        ensures { Asked (guarding W.Watch H.Host W.Act.Action) self.old ask.now (said result) self.new }
     {
         match ask {
             Ask::Submit(a) => Reply::Answered(self.submit(a)),
@@ -87,17 +89,19 @@ impl<W: Watch, H: Host<Act = W::Act>> Gate<W, H> {
     }
 
     /// Replies to each of `asks` in turn, as long as there is a place for the reply; says to how many.
+    // Stays: each part of the promise is a clause with its name, at every call that keeps it.
     pub fn serve(&mut self, asks: &[Ask<W::Act>], replies: &mut [Reply]) -> usize
         ensures many { result ≡ min (length asks.now) (length replies.old) }
         ensures later { drop result replies.new ≡ drop result replies.old }
-        ensures chain { Chain (guarding W.Watch.forbids H.Host.can H.Host.counts H.Host.recorded H.Host.did W.Act.Action.kind) self.old (take result asks.now) (map said (take result replies.new)) self.new }
-        ensures ledger { RepliesAsLedger (guarding W.Watch.forbids H.Host.can H.Host.counts H.Host.recorded H.Host.did W.Act.Action.kind) self.old (take result asks.now) (map said (take result replies.new)) self.new }
+        ensures chain { Chain (guarding W.Watch H.Host W.Act.Action) self.old (take result asks.now) (map said (take result replies.new)) self.new }
+        ensures ledger { RepliesAsLedger (guarding W.Watch H.Host W.Act.Action) self.old (take result asks.now) (map said (take result replies.new)) self.new }
         ensures decided { BarsAndDoesExactly (W.Watch.forbids self.old.watch) (H.Host.can self.old.host) self.old.stopped (take result asks.now) (map said (take result replies.new)) }
-        ensures carried { CarriesDone (guarding W.Watch.forbids H.Host.can H.Host.counts H.Host.recorded H.Host.did W.Act.Action.kind) self.old (done_of (take result asks.now) (map said (take result replies.new))) self.new }
+        ensures carried { CarriesDone (guarding W.Watch H.Host W.Act.Action) self.old (done_of (take result asks.now) (map said (take result replies.new))) self.new }
     {
         let many = asks.len().min(replies.len());
-        for i in 0..many {
-            replies[i] = self.reply(&asks[i]);
+        for (i, ask) in asks[..many].iter().enumerate() {
+            // Stays: written by its number, since no clause says what a slice holds after `iter_mut`.
+            replies[i] = self.reply(ask);
         }
         many
     }

@@ -2,7 +2,7 @@
 ghost use Rattle.std.specs.Prelude.{◌≡◌, ℕ, List};
 ghost use Rattle.watch.specs.Meaning.{Alike};
 ghost use Rattle.gate.specs.Words.{Word};
-ghost use Rattle.gate.specs.Chains.{guarding, Mix};
+ghost use Rattle.gate.specs.Chains.{guarding, known, Mix};
 ghost use Rattle.gate.specs.Promise.{Kept, SameLedgers, Compose};
 
 use crate::ask::Ask;
@@ -13,12 +13,12 @@ use watch::watch::Watch;
 
 /// Single calls and runs, in any mix, keep the promise from the gate at which they begin, a fresh one among them.
 pub fn calls_keep<W: Watch, H: Host<Act = W::Act>>()
-    ensures { (g h : Gate W H) (qs : List (Ask W.Act)) (ws : List Word) → Mix (guarding W.Watch.forbids H.Host.can H.Host.counts H.Host.recorded H.Host.did W.Act.Action.kind) g qs ws h → Kept (guarding W.Watch.forbids H.Host.can H.Host.counts H.Host.recorded H.Host.did W.Act.Action.kind) g qs ws h }
+    ensures { (g h : Gate W H) (qs : List (Ask W.Act)) (ws : List Word) → Mix (guarding W.Watch H.Host W.Act.Action) g qs ws h → Kept (guarding W.Watch H.Host W.Act.Action) g qs ws h }
 {}
 
 /// Ledger runs one after another are one run.
 pub fn ledgers_compose<W: Watch, H: Host<Act = W::Act>>()
-    ensures { (w : W) (h : H) → Compose (W.Watch.forbids w) (H.Host.can h) (H.Host.counts h) W.Act.Action.kind }
+    ensures { (w : W) (h : H) → Compose (known (guarding W.Watch H.Host W.Act.Action) w h) }
 {}
 
 /// Two ledgers that know the same lists and counts give the same replies, done actions and stop.
@@ -28,5 +28,5 @@ pub fn ledgers_agree<
     V: Watch<Act = W::Act>,
     K: Host<Act = W::Act>,
 >()
-    ensures { (w : W) (h : H) (v : V) (k : K) → Alike (W.Watch.forbids w) (V.Watch.forbids v) → Alike (H.Host.can h) (K.Host.can k) → ((i : ℕ) → H.Host.counts h i ≡ K.Host.counts k i) → SameLedgers (W.Watch.forbids w) (H.Host.can h) (H.Host.counts h) (V.Watch.forbids v) (K.Host.can k) (K.Host.counts k) W.Act.Action.kind }
+    ensures { (w : W) (h : H) (v : V) (k : K) → Alike (W.Watch.forbids w) (V.Watch.forbids v) → Alike (H.Host.can h) (K.Host.can k) → ((i : ℕ) → H.Host.counts h i ≡ K.Host.counts k i) → SameLedgers (known (guarding W.Watch H.Host W.Act.Action) w h) (known (guarding V.Watch K.Host W.Act.Action) v k) }
 {}

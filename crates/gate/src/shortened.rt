@@ -18,10 +18,10 @@ impl<W: Watch, H: Host<Act = W::Act>> Gate<W, H> {
     pub fn run(&mut self, asks: &[Ask<W::Act>], replies: &mut [Reply]) -> usize
         ensures many { result ≡ min (length asks.now) (length replies.old) }
         ensures later { drop result replies.new ≡ drop result replies.old }
-        ensures chain { Chain (guarding W.Watch.forbids H.Host.can H.Host.counts H.Host.recorded H.Host.did W.Act.Action.kind) self.old (take result asks.now) (map said (take result replies.new)) self.new }
-        ensures ledger { RepliesAsLedger (guarding W.Watch.forbids H.Host.can H.Host.counts H.Host.recorded H.Host.did W.Act.Action.kind) self.old (take result asks.now) (map said (take result replies.new)) self.new }
+        ensures chain { Chain (guarding W.Watch H.Host W.Act.Action) self.old (take result asks.now) (map said (take result replies.new)) self.new }
+        ensures ledger { RepliesAsLedger (guarding W.Watch H.Host W.Act.Action) self.old (take result asks.now) (map said (take result replies.new)) self.new }
         ensures decided { BarsAndDoesExactly (W.Watch.forbids self.old.watch) (H.Host.can self.old.host) self.old.stopped (take result asks.now) (map said (take result replies.new)) }
-        ensures carried { CarriesDone (guarding W.Watch.forbids H.Host.can H.Host.counts H.Host.recorded H.Host.did W.Act.Action.kind) self.old (done_of (take result asks.now) (map said (take result replies.new))) self.new }
+        ensures carried { CarriesDone (guarding W.Watch H.Host W.Act.Action) self.old (done_of (take result asks.now) (map said (take result replies.new))) self.new }
         ensures shortened { RestNeverStops (W.Watch.forbids self.old.watch) W.Act.Action.kind (done_of (take result asks.now) (map said (take result replies.new))) }
     {
         self.serve(asks, replies)
@@ -30,7 +30,7 @@ impl<W: Watch, H: Host<Act = W::Act>> Gate<W, H> {
 
 /// Whichever of the actions that such calls have done are left out, no ledger run over the rest is stopped.
 pub fn calls_leave_out<W: Watch, H: Host<Act = W::Act>>()
-    ensures { (g h : Gate W H) (qs : List (Ask W.Act)) (ws : List Word) → Mix (guarding W.Watch.forbids H.Host.can H.Host.counts H.Host.recorded H.Host.did W.Act.Action.kind) g qs ws h → RestNeverStops (W.Watch.forbids g.watch) W.Act.Action.kind (done_of qs ws) }
+    ensures { (g h : Gate W H) (qs : List (Ask W.Act)) (ws : List Word) → Mix (guarding W.Watch H.Host W.Act.Action) g qs ws h → RestNeverStops (W.Watch.forbids g.watch) W.Act.Action.kind (done_of qs ws) }
 {}
 
 /// The same of gates: one that is not stopped, whose watch forbids the same lists, at any host, is not stopped by the rest.
@@ -40,5 +40,5 @@ pub fn gates_leave_out<
     V: Watch<Act = W::Act>,
     K: Host<Act = W::Act>,
 >()
-    ensures { (g h : Gate W H) (qs : List (Ask W.Act)) (ws : List Word) (p q : Gate V K) (rest : List W.Act) (vs : List Word) → Mix (guarding W.Watch.forbids H.Host.can H.Host.counts H.Host.recorded H.Host.did W.Act.Action.kind) g qs ws h → Alike (V.Watch.forbids p.watch) (W.Watch.forbids g.watch) → p.stopped ≡ false → Sub rest (done_of qs ws) → Mix (guarding V.Watch.forbids K.Host.can K.Host.counts K.Host.recorded K.Host.did W.Act.Action.kind) p (submits rest) vs q → q.stopped ≡ false }
+    ensures { (g h : Gate W H) (qs : List (Ask W.Act)) (ws : List Word) (p q : Gate V K) (rest : List W.Act) (vs : List Word) → Mix (guarding W.Watch H.Host W.Act.Action) g qs ws h → Alike (V.Watch.forbids p.watch) (W.Watch.forbids g.watch) → p.stopped ≡ false → Sub rest (done_of qs ws) → Mix (guarding V.Watch K.Host W.Act.Action) p (submits rest) vs q → q.stopped ≡ false }
 {}

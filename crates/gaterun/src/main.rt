@@ -3,26 +3,25 @@
 #![tactic(auto)]
 
 use answers::files::{Refused, answer_files};
-use file_input::files::{RUN_BYTES, SHEET_BYTES, rule_bytes, run_bytes};
-use file_input::folders::folders;
-use file_input::tell::{tell_folder, tell_refusal};
+use file_input::files::{rule_bytes, run_bytes};
+use file_input::folders::{Program, for_each_folder};
+use file_input::tell::tell_refusal;
 use gate::answer::Answer;
 use gate::ask::Reply;
 use run_file::MOST_DEEDS;
 use std::io;
 
-// Prints the first so many answers and how many deeds were done.
-fn show(rt: &HostRuntime, replies: &[Reply], many: usize) -> io::Result<()> {
-    let mut done: usize = 0;
-    for (i, reply) in replies.iter().take(many).enumerate() {
+// Prints the answers and how many deeds were done.
+fn show(rt: &HostRuntime, replies: &[Reply]) -> io::Result<()> {
+    for (i, reply) in replies.iter().enumerate() {
         if let Reply::Answered(answer) = reply {
-            let number = answer.number();
-            println!(rt; "{i} {number}")?;
-            if number == 0 {
-                done = done.saturating_add(1);
-            }
+            println!(rt; "{i} {}", answer.number())?;
         }
     }
+    let done = replies
+        .iter()
+        .filter(|reply| matches!(reply, Reply::Answered(Answer::Done)))
+        .count();
     println!(rt; "done {done}")
 }
 
@@ -33,26 +32,20 @@ fn refuse(rt: &HostRuntime, refused: Refused) -> io::Result<()> {
     }
 }
 
-fn account(rt: &HostRuntime, folder: &str) -> anyhow::Result<()> {
-    let mut rule = [0; SHEET_BYTES];
-    let rule_len = rule_bytes(rt, folder, &mut rule)?;
-    let mut deeds = [0; RUN_BYTES];
-    let deeds_len = run_bytes(rt, folder, &mut deeds)?;
-    let mut replies = [Reply::Answered(Answer::Declined); MOST_DEEDS];
-    match answer_files(&rule[0..rule_len], &deeds[0..deeds_len], &mut replies) {
-        Ok(account) => Ok(show(rt, &replies, account.many)?),
-        Err(refused) => Ok(refuse(rt, refused)?),
-    }
-}
+struct Gaterun;
 
-fn run(rt: &HostRuntime) -> anyhow::Result<()> {
-    for folder in folders(rt)?.iter() {
-        tell_folder(rt, folder.as_str())?;
-        account(rt, folder.as_str())?;
+impl Program for Gaterun {
+    fn account(&self, rt: &HostRuntime, folder: &str) -> anyhow::Result<()> {
+        let rule = rule_bytes(rt, folder)?;
+        let run = run_bytes(rt, folder)?;
+        let mut replies = [Reply::Answered(Answer::Declined); MOST_DEEDS];
+        match answer_files(rule.as_slice(), run.as_slice(), &mut replies) {
+            Ok(account) => Ok(show(rt, &replies[..account.many])?),
+            Err(refused) => Ok(refuse(rt, refused)?),
+        }
     }
-    Ok(())
 }
 
 fn main(rt: HostRuntime) -> anyhow::Result<()> {
-    run(&rt)
+    for_each_folder(&rt, &Gaterun)
 }

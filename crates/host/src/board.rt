@@ -7,7 +7,7 @@ ghost use Rattle.host.specs.Boards.{most, counted, Low, Within, no_record};
 use crate::host::Host;
 use crate::outcome::Outcome;
 use action::action::Action;
-use action::kind::HIGHEST_KIND;
+use action::kind::Kind;
 use fault::fault::Fault;
 use std::marker::PhantomData;
 
@@ -59,9 +59,7 @@ impl<T: Action> Host for Board<T> {
     }
 
     fn count(&self, kind: u8) -> Result<u64, Fault> {
-        if kind > HIGHEST_KIND {
-            return Err(Fault::OutOfRange);
-        }
-        Ok(self.counts[kind as usize])
+        let kind = Kind::try_from(kind)?;
+        Ok(self.counts[kind.value() as usize])
     }
 }

@@ -28,10 +28,12 @@ pub trait Host {
         ensures { Decides result (can self.now (a.now ∷ [])) };
 
     /// Does an action that can be done; declines any other, and is then as it was.
+    // Stays: a trait's own clause names its members one by one, since the file of `hosting` imports the trait's record.
     fn perform(&mut self, a: &Self::Act) -> Outcome
         ensures { Attempts (record { can = can; counts = counts; recorded = recorded; did = did; kind = Self.Act.Action.kind }) self.old a.now (number result) self.new };
 
     /// The count of a kind, or refusal 13 above the highest kind.
+    // Stays: any number may be asked about, and refusal 13 says which names no kind.
     fn count(&self, kind: u8) -> Result<u64, Fault>
         ensures { result ≡ count_of kind (counts self.now kind) };
 }

@@ -1,18 +1,18 @@
-ghost use Rattle.std.specs.Prelude.{◌≡◌, ◌<◌, ◌≤◌, [], ◌++◌, length, take, Some, slice_set};
-ghost use Rattle.action.specs.Traces.{tally};
+ghost use Rattle.std.specs.Prelude.{◌≡◌, ◌<◌, ◌≤◌, ◌==◌, [], ◌++◌, length, take, count_by, Some, slice_set};
 ghost use Rattle.host.specs.Hosting.{Begins};
 ghost use Rattle.host.specs.Spools.{filled, free, Room, counted, Filled};
 
 use crate::host::Host;
 use crate::outcome::Outcome;
 use action::action::Action;
-use action::kind::HIGHEST_KIND;
+use action::kind::Kind;
 use fault::fault::Fault;
 
 /// A host that fills a list of actions, lent by its owner, from the first place on.
 /// What it has filled is its record; it can do any list no longer than its free places.
 #[derive(Drop)]
 pub struct Spool<'a, T> {
+    // Stays: a place that the caller lends, and how far it is filled, since a library takes no memory of its own.
     places: &'a mut [T],
     used: usize,
 }
@@ -46,17 +46,14 @@ fn put<T: Action>(places: &mut [T], at: usize, a: T)
 }
 
 // How many of the first places hold an action of a kind.
-fn count_in<T: Action>(places: &[T], used: usize, kind: u8) -> u64
-    ensures { result ≡ tally T.Action.kind kind (take used places.now) }
+fn count_in<T: Action>(places: &[T], used: usize, kind: Kind) -> u64
+    ensures { result ≡ count_by (λ a. kind.value == T.Action.kind a) (take used places.now) }
 {
-    let end = used.min(places.len());
-    let mut count = 0;
-    for i in 0..end {
-        if places[i].kind().value() == kind {
-            count += 1;
-        }
-    }
-    count
+    places
+        .iter()
+        .take(used)
+        .filter(|a| kind == a.kind())
+        .count() as u64
 }
 
 impl<'a, T: Action> Host for Spool<'a, T> {
@@ -84,10 +81,9 @@ impl<'a, T: Action> Host for Spool<'a, T> {
         Outcome::Performed
     }
 
+    #[tactic(auto, using(crate::proofs::Counting::tally_counts))]
     fn count(&self, kind: u8) -> Result<u64, Fault> {
-        if kind > HIGHEST_KIND {
-            return Err(Fault::OutOfRange);
-        }
+        let kind = Kind::try_from(kind)?;
         Ok(count_in(self.places, self.used, kind))
     }
 }

@@ -1,17 +1,17 @@
 // Gates over what is lent, so that its owner knows what came of it.
 ghost use Rattle.std.specs.Prelude.{◌≡◌, ◌≤◌, min, false, map, length, take, drop};
+ghost use Rattle.host.specs.Meaning.{hosting};
 ghost use Rattle.gate.specs.Words.{said};
 ghost use Rattle.gate.specs.Ledger.{done_of};
+ghost use Rattle.gate.specs.Chains.{guarding, known};
 ghost use Rattle.gate.specs.Promise.{RepliesAsFresh, BarsAndDoesExactly, Carried};
 ghost use Rattle.lending.specs.Lent.{after_done};
 
-use crate::elsewhere::Elsewhere;
 use action::action::Action;
 use gate::ask::{Ask, Reply};
 use gate::gate::Gate;
 use host::host::Host;
 use host::spool::Spool;
-use std::marker::PhantomData;
 use watch::watch::Watch;
 
 /// Opens a gate over a lent host, has it reply to `asks` as `serve` does, and lets it go.
@@ -23,17 +23,11 @@ pub fn serve_at<W: Watch + Drop, H: Host<Act = W::Act>>(
 ) -> usize
     ensures many { result ≡ min (length asks.now) (length replies.old) }
     ensures later { drop result replies.new ≡ drop result replies.old }
-    ensures ledger { RepliesAsFresh (W.Watch.forbids watch) (H.Host.can host.old) (H.Host.counts host.old) W.Act.Action.kind (take result asks.now) (map said (take result replies.new)) }
+    ensures ledger { RepliesAsFresh (known (guarding W.Watch H.Host W.Act.Action) watch host.old) (take result asks.now) (map said (take result replies.new)) }
     ensures decided { BarsAndDoesExactly (W.Watch.forbids watch) (H.Host.can host.old) false (take result asks.now) (map said (take result replies.new)) }
-    ensures carried { Carried (record { can = H.Host.can; counts = H.Host.counts; recorded = H.Host.recorded; did = H.Host.did; kind = W.Act.Action.kind }) host.old (done_of (take result asks.now) (map said (take result replies.new))) host.new }
+    ensures carried { Carried (hosting H.Host W.Act.Action) host.old (done_of (take result asks.now) (map said (take result replies.new))) host.new }
 {
-    let mut gate = Gate::open(
-        Elsewhere {
-            at: &mut watch,
-            of: PhantomData,
-        },
-        host,
-    );
+    let mut gate = Gate::open(&mut watch, host);
     gate.serve(asks, replies)
 }
 
@@ -47,7 +41,7 @@ pub fn serve_on_list<W: Watch + Drop>(
 ) -> usize
     ensures many { result ≡ min (length asks.now) (length replies.old) }
     ensures later { drop result replies.new ≡ drop result replies.old }
-    ensures ledger { RepliesAsFresh (W.Watch.forbids watch) (λ l. length l ≤ length list.old) (λ _. 0) W.Act.Action.kind (take result asks.now) (map said (take result replies.new)) }
+    ensures ledger { RepliesAsFresh (record { forbids = W.Watch.forbids watch; can = λ l. length l ≤ length list.old; counts = λ _. 0; kind = W.Act.Action.kind }) (take result asks.now) (map said (take result replies.new)) }
     ensures decided { BarsAndDoesExactly (W.Watch.forbids watch) (λ l. length l ≤ length list.old) false (take result asks.now) (map said (take result replies.new)) }
     ensures held { list.new ≡ after_done list.old (done_of (take result asks.now) (map said (take result replies.new))) }
 {

@@ -7,7 +7,7 @@ use Rattle.std.proofs.lemmas.Bool.Decides.{nat_tests}
 use Rattle.sheet.specs.declared.marks.Marks.{Marks}
 use Rattle.sheet.specs.Empties.{has, nothing, both, either, must}
 use Rattle.sheet.proofs.Bools.{and_in, and_out}
-use Rattle.sheet.proofs.Both.{move, has_same, either_l, either_r, either_out, both_out}
+use Rattle.sheet.proofs.Both.{move, has_same, either_l, either_r, either_out}
 use Rattle.followers.specs.Words.{bit}
 use Rattle.followers.proofs.Words.{bit_of_or, bit_zero}
 use Rattle.machine.specs.Pairs.{marks_of, only_if}
@@ -115,7 +115,3 @@ byte_marked r h = move (sym (eq-eqb (r / 2 % 2) 1 h)) tt
 pub marked_byte : (r : ℕ) → T (has (marks_of r) true) → r / 2 % 2 ≡ 1
 unfolding bit
 marked_byte r h = eqb→eq (r / 2 % 2) 1 h
-
--- nothing follows where no mark does
-pub none_follows : (a n : Marks) (m : Bool) → n.plain ≡ false → n.marked ≡ false → T (has (both a n) m) → ⊥
-none_follows a n m e f h = let s = both_out a n m h in no_mark s.n (has_same (same_marks n nothing e f) s.n s.right)

@@ -1,8 +1,9 @@
 -- What loops over the pairs of x and y reach.
-use Rattle.std.proofs.Common.{◌≡◌, ℕ, zero, suc, ◌+◌, ◌*◌, ◌/◌, ◌%◌, ◌<◌, Bool, true, ◌&&◌, T, ltb, ◌⊎◌, ◌↔◌, List, length, get_or, set, replicate, Some, None, Option, sym, refl, ap, ◌∙◌, subst, inl, inr, arith, ltb→lt}
+use Rattle.std.proofs.Common.{◌≡◌, ℕ, zero, suc, ◌+◌, ◌*◌, ◌/◌, ◌%◌, ◌<◌, Bool, true, ◌&&◌, T, ltb, ◌⊎◌, ◌↔◌, List, length, get_or, set, take, drop, replicate, Some, None, Option, sym, refl, ap, ◌∙◌, subst, inl, inr, arith, ltb→lt}
 use native.Mathlib.Decide.{dec_lt}
 use lib.Bits.{bit_or}
 use Rattle.std.proofs.lemmas.Bool.{lt-ltb}
+use Rattle.std.proofs.lemmas.List.{get_or-drop, get_or-take}
 use Rattle.action.specs.declared.deed.Deed.{Deed}
 use Rattle.sheet.specs.declared.diagram.Variables.{Variables}
 use Rattle.sheet.specs.declared.marks.Marks.{Marks}
@@ -13,7 +14,7 @@ use Rattle.sheet.specs.Empties.{has, both}
 use Rattle.sheet.specs.Meaning.{Takes, Puts, Changes}
 use Rattle.sheet.proofs.Bools.{and_in, and_out}
 use Rattle.sheet.proofs.Both.{move, has_same, both_out}
-use Rattle.machine.specs.Pairs.{marks_of, small, place, seen, may, Reached}
+use Rattle.machine.specs.Pairs.{marks_of, small, place, seen, may}
 use Rattle.machine.proofs.Carried.{marks_zero, no_mark, only_in, only_out, only_yes, or_at, byte_marked, marked_byte}
 
 pub small_in : (v : Variables) → v.x < 16 → v.y < 16 → T (small v)
@@ -114,6 +115,10 @@ none_seen n u m h = no_mark m (has_same (ap marks_of (zeros n (place u)) ∙ mar
 pub none_may : (n p : ℕ) (u : Variables) (m : Bool) → T (has (may (replicate n 0) p u) m) → ⊥
 none_may n p u m h = no_mark m (has_same (ap marks_of (zeros n (p * 256 + place u)) ∙ marks_zero) m (may_out (replicate n 0) p u m h).2)
 
+-- the byte at the place i of the bytes of the step p
+pub byte_at : (marks : List ℕ) (p n i : ℕ) → i < n → get_or (take n (drop (p * 256) marks)) i 0 ≡ get_or marks (p * 256 + i) 0
+byte_at marks p n i h = get_or-take n (drop (p * 256) marks) i 0 h ∙ get_or-drop (p * 256) marks i 0
+
 pub reached_more : (marks xs ys : List ℕ) (p i : ℕ) (s : Step) (d : Deed) → p < 64 → i < 256
     → ((u : Variables) (m : Bool) → T (has (seen xs u) m) ↔ ReachedTo (may marks p) s d i u m)
     → Lands xs (get_or marks (p * 256 + i) 0) s (pair i) d ys
@@ -135,12 +140,6 @@ reached_more marks xs ys p i s d hp h inv adv u m = (to, from)
           let z : w ≡ pair i = sym (pair_of w b.1) ∙ ap pair e in
           (adv u m).1 (inr (subst (λ (k : ℕ). T (has (marks_of (get_or marks (p * 256 + k) 0)) m)) e b.2, subst (λ (y : Variables). Takes s y d u) z t))
     ]
-
-pub reached_all : (marks : List ℕ) (p : ℕ) (s : Step) (d : Deed) (u : Variables) (m : Bool) → ReachedTo (may marks p) s d 256 u m ↔ Reached (may marks p) s d u m
-reached_all marks p s d u m = (
-  λ x. (x.0, x.2, x.3),
-  λ x. let i = small_out x.0 (may_out marks p x.0 m x.1).1 in (x.0, omega (arith, i.0, i.1), x.1, x.2),
-)
 
 -- what is reached, carried on to what follows
 both_small : (xs : List ℕ) (u : Variables) (n : Marks) (m : Bool) → T (has (both (seen xs u) n) m) → T (small u)
@@ -187,13 +186,6 @@ spread_more xs ys reached q i r n len hq hi c inv j u m = (to, from)
           may_in _ j u m (omega arith) s ((or_at ys (q * 256 + i) r (j * 256 + place u) m lt).1 (inr (omega arith, has_same (sym (carried_at reached u n i r c s f)) m h)))
     ]
 
-pub spread_whole : (xs ys reached : List ℕ) (q : ℕ) (n : Marks) → SpreadTo xs reached q n 256 ys
-    → (j : ℕ) (u : Variables) (m : Bool) → T (has (may ys j u) m) ↔ (T (has (may xs j u) m) ⊎ ((j ≡ q) × T (has (both (seen reached u) n) m)))
-spread_whole xs ys reached q n h j u m = (
-  λ x. elim ((h j u m).0 x) [ inl y ↦ inl y | inr y ↦ inr (y.0, y.2) ],
-  λ x. elim x [ inl y ↦ (h j u m).1 (inl y) | inr y ↦ let b = small_out u (both_small reached u n m y.1) in (h j u m).1 (inr (y.0, omega (arith, b.0, b.1), y.1)) ],
-)
-
 -- an end at the place i, and none there
 pub end_at : (reached : List ℕ) (i r : ℕ) (n : Marks) → i < 256 → marks_of r ≡ both (marks_of (get_or reached i 0)) n → r / 2 % 2 ≡ 1
     → (u : Variables) × T (has (both (seen reached u) n) true)
@@ -208,6 +200,3 @@ no_end_more reached i r n c h inv u l x = elim (dec_lt (place u) i) [
   | yes y ↦ inv u y x
   | no y ↦ let e : place u ≡ i = omega arith in h (marked_byte r (has_same (sym (carried_at reached u n i r c (both_small reached u n true x) e)) true x))
 ]
-
-pub no_end : (reached : List ℕ) (n : Marks) (i : ℕ) → i ≡ 256 → NoEndTo reached n i → (u : Variables) × T (has (both (seen reached u) n) true) → ⊥
-no_end reached n i e inv (u, x) = let b = small_out u (both_small reached u n true x) in inv u (omega (arith, b.0, b.1)) x

@@ -43,20 +43,23 @@ module _ (v : Variables) (hx : v.x < 16) (hy : v.y < 16) where
       let q : get_or (only_at v) (place v) 0 ≡ 1 = get_or-set_same (replicate 256 0) (place v) 1 0 (omega (arith, length-replicate {A = ℕ} 256 0)) in
       only_in (small v) (marks_of (get_or (only_at v) (place v) 0)) false (small_in v hx hy) (has_same (ap marks_of (sym q)) false one_there)
 
-  pub first_spread : (L K : Nexts) → L ≡ K → (marks : List ℕ)
-      → ((j : ℕ) (u : Variables) (m : Bool) → T (has (may marks j u) m) ↔ (T (has (may (replicate 16384 0) j u) m) ⊎ T (has (both (seen (only_at v) u) (L (at j))) m)))
+  pub first_spread : (i : ℕ) → i ≡ place v → (L K : Nexts) → L ≡ K → (marks : List ℕ)
+      → ((j : ℕ) (u : Variables) (m : Bool) → T (has (may marks j u) m) ↔ (T (has (may (replicate 16384 0) j u) m) ⊎ T (has (both (seen (set (replicate 256 0) i 1) u) (L (at j))) m)))
       → (p : ℕ) (u : Variables) (m : Bool) → T (has (may marks p u) m) ↔ ((u ≡ v) × T (has (K (at p)) m))
-  first_spread L K e marks sp p u m = (to, from)
+  first_spread i here L K e marks sp p u m = (to, from)
     where
+      same : set (replicate 256 0) i 1 ≡ only_at v
+      same = ap (λ (k : ℕ). set (replicate 256 0) k 1) here
+
       to : T (has (may marks p u) m) → (u ≡ v) × T (has (K (at p)) m)
       to h = elim ((sp p u m).0 h) [
         | inl y ↦ absurd (none_may 16384 p u m y)
         | inr y ↦
-            let s = both_out (seen (only_at v) u) (L (at p)) m y in
+            let s = both_out (seen (only_at v) u) (L (at p)) m (subst (λ (xs : List ℕ). T (has (both (seen xs u) (L (at p))) m)) same y) in
             let o = only_seen u s.m s.left in
             let q : s.n ≡ m = sym (ap (λ (b : Bool). b || s.n) o.1) ∙ s.is in
             (o.0, along e (at p) m (subst (λ (b : Bool). T (has (L (at p)) b)) q s.right))
       ]
 
       from : (u ≡ v) × T (has (K (at p)) m) → T (has (may marks p u) m)
-      from (q, h) = (sp p u m).1 (inr (both_at (seen (only_at v) u) (L (at p)) false m m refl (subst (λ (z : Variables). T (has (seen (only_at v) z) false)) (sym q) seen_there) (along (sym e) (at p) m h)))
+      from (q, h) = (sp p u m).1 (inr (subst (λ (xs : List ℕ). T (has (both (seen xs u) (L (at p))) m)) (sym same) (both_at (seen (only_at v) u) (L (at p)) false m m refl (subst (λ (z : Variables). T (has (seen (only_at v) z) false)) (sym q) seen_there) (along (sym e) (at p) m h))))

@@ -1,28 +1,26 @@
 -- What loops over the steps reach: one more step fired.
-use Rattle.std.proofs.Common.{◌≡◌, ℕ, ◌+◌, ◌<◌, ◌≤◌, Bool, true, false, ◌||◌, T, ltb, ◌⊎◌, ◌↔◌, Some, None, Decides, Option, sym, refl, ap, ◌∙◌, subst, inl, inr, arith, ltb→lt}
+use Rattle.std.proofs.Common.{◌≡◌, ℕ, ◌+◌, ◌<◌, ◌≤◌, Bool, true, ◌||◌, T, ◌⊎◌, ◌↔◌, Some, None, Decides, Option, sym, refl, subst, subst₂, inl, inr, arith}
 use native.Mathlib.Decide.{dec_lt}
 use Rattle.std.proofs.lemmas.Bool.Decides.{Decides-like, Decides-or}
 use Rattle.action.specs.declared.deed.Deed.{Deed}
 use Rattle.sheet.specs.declared.diagram.Fragment.{Fragment}
 use Rattle.sheet.specs.declared.diagram.Variables.{Variables}
 use Rattle.sheet.specs.declared.marks.Marks.{Marks}
-use Rattle.sheet.specs.declared.step.Step.{Step}
 use Rattle.sheet.specs.Empties.{has, both}
 use Rattle.sheet.specs.Meaning.{Takes}
-use Rattle.sheet.proofs.Bools.{and_out, T_true}
+use Rattle.sheet.proofs.Bools.{T_true}
 use Rattle.sheet.proofs.Both.{move, has_same, both_at, both_out}
-use Rattle.followers.specs.declared.sets.NextSet.{NextSet}
 use Rattle.followers.specs.Next.{at, end, Nexts}
 use Rattle.followers.specs.Accepts.{Fires}
-use Rattle.followers.specs.Words.{bit, nexts}
-use Rattle.machine.specs.Firing.{Suited}
+use Rattle.machine.specs.declared.fire.Firing.{Firing}
+use Rattle.machine.specs.Suited.{Suited}
 use Rattle.machine.specs.Pairs.{May, Reached}
 use Rattle.machine.specs.Going.{EndsBelow, MovesBelow}
 
 -- no step of a fragment suits the deed
-pub none_suits : (f : Fragment) (d : Deed) (r : Option Step) → Suited f d r → ((s : Step) → r ≡ Some s → ⊥) → (v u : Variables) → Fires f v d u → ⊥
+pub none_suits : (f : Fragment) (d : Deed) (r : Option Firing) → Suited f d r → ((t : Firing) → r ≡ Some t → ⊥) → (v u : Variables) → Fires f v d u → ⊥
 none_suits f d None h no' = h
-none_suits f d (Some s) h no' = absurd (no' s refl)
+none_suits f d (Some t) h no' = absurd (no' t refl)
 
 -- some pair that is reached has the end after it, marked
 abbrev pub EndThere : (Variables → Marks) → Marks → Type 0
@@ -32,21 +30,15 @@ module _ (F : ℕ → Fragment) (follow : ℕ → Nexts) (old : May) (d : Deed) 
   pub ends_up : (q : ℕ) → p ≤ q → EndsBelow F follow old d p → EndsBelow F follow old d q
   ends_up q h x = (x.0, x.1, x.2, x.3, x.4, omega (arith, x.5), x.6, x.7, x.8, x.9)
 
-  pub no_ends : p ≡ 0 → EndsBelow F follow old d p → ⊥
-  no_ends e x = omega (arith, x.5)
-
-  pub no_moves : (q : ℕ) (u : Variables) (k : Bool) → p ≡ 0 → MovesBelow F follow old d p q u k → ⊥
-  no_moves q u k e x = omega (arith, x.4)
-
   moves_kept : (q : ℕ) (u : Variables) (k : Bool) → MovesBelow F follow old d p q u k → MovesBelow F follow old d (p + 1) q u k
   moves_kept q u k x = (x.0, x.1, x.2, x.3, omega (arith, x.4), x.5, x.6, x.7, x.8)
 
-  module _ (s : Step) (e : F p ≡ Fragment.Step s) (R : Variables → Marks) (fired : (u : Variables) (m : Bool) → T (has (R u) m) ↔ Reached (old p) s d u m) where
-    fires : (v u : Variables) → Takes s v d u → Fires (F p) v d u
-    fires v u t = subst (λ (f : Fragment). Fires f v d u) (sym e) t
+  module _ (t : Firing) (e : (F p ≡ Fragment.Step t.step) × (t.deed ≡ d)) (R : Variables → Marks) (fired : (u : Variables) (m : Bool) → T (has (R u) m) ↔ Reached (old p) t.step t.deed u m) where
+    fires : (v u : Variables) → Takes t.step v t.deed u → Fires (F p) v d u
+    fires v u x = subst₂ (λ (f : Fragment) (k : Deed). Fires f v k u) (sym e.0) e.1 x
 
-    takes : (v u : Variables) → Fires (F p) v d u → Takes s v d u
-    takes v u t = subst (λ (f : Fragment). Fires f v d u) e t
+    takes : (v u : Variables) → Fires (F p) v d u → Takes t.step v t.deed u
+    takes v u x = subst₂ (λ (f : Fragment) (k : Deed). Fires f v k u) e.0 (sym e.1) x
 
     pub ends_found : (n : Marks) → n ≡ follow p end → EndThere R n → EndsBelow F follow old d (p + 1)
     ends_found n same (u, h) =
@@ -118,36 +110,3 @@ module _ (F : ℕ → Fragment) (follow : ℕ → Nexts) (old : May) (d : Deed) 
 -- spread to the steps below q
 abbrev pub SpreadBelow : May → (Variables → Marks) → (ℕ → Marks) → ℕ → May → Type 0
 SpreadBelow xs R K q ys = (j : ℕ) (u : Variables) (m : Bool) → T (has (ys j u) m) ↔ (T (has (xs j u) m) ⊎ ((j < q) × T (has (both (R u) (K j)) m)))
-
-pub spread_on : (R : Variables → Marks) (K : ℕ → Marks) (q : ℕ) (n : Marks) → n ≡ K q → (xs zs ys : May)
-    → ((j : ℕ) (u : Variables) (m : Bool) → T (has (ys j u) m) ↔ (T (has (zs j u) m) ⊎ ((j ≡ q) × T (has (both (R u) n) m))))
-    → SpreadBelow xs R K q zs → SpreadBelow xs R K (q + 1) ys
-spread_on R K q n e xs zs ys sp inv j u m = (to, from)
-  where
-    to : T (has (ys j u) m) → T (has (xs j u) m) ⊎ ((j < q + 1) × T (has (both (R u) (K j)) m))
-    to h = elim ((sp j u m).0 h) [
-      | inl y ↦ elim ((inv j u m).0 y) [ inl z ↦ inl z | inr z ↦ inr (omega (arith, z.0), z.1) ]
-      | inr y ↦ inr (omega (arith, y.0), has_same (ap (λ (k : Marks). both (R u) k) (e ∙ ap K (sym y.0))) m y.1)
-    ]
-
-    from : T (has (xs j u) m) ⊎ ((j < q + 1) × T (has (both (R u) (K j)) m)) → T (has (ys j u) m)
-    from (inl h) = (sp j u m).1 (inl ((inv j u m).1 (inl h)))
-    from (inr (l, h)) = elim (dec_lt j q) [
-      | yes y ↦ (sp j u m).1 (inl ((inv j u m).1 (inr (y, h))))
-      | no y ↦ let z : j ≡ q = omega arith in (sp j u m).1 (inr (z, has_same (ap (λ (k : Marks). both (R u) k) (ap K z ∙ sym e)) m h))
-    ]
-
--- a set has only steps below 64
-pub step_low : (k : NextSet) (j : ℕ) (m : Bool) → T (has (nexts k (at j)) m) → j < 64
-step_low k j false h = ltb→lt j 64 (and_out (ltb j 64) (bit k.plain.steps j) h).0
-step_low k j true h = ltb→lt j 64 (and_out (ltb j 64) (bit k.marked.steps j) h).0
-
-pub spread_ends : (k : NextSet) (R : Variables → Marks) (xs ys : May) (q : ℕ) → q ≡ 64 → SpreadBelow xs R (λ j. nexts k (at j)) q ys
-    → (j : ℕ) (u : Variables) (m : Bool) → T (has (ys j u) m) ↔ (T (has (xs j u) m) ⊎ T (has (both (R u) (nexts k (at j))) m))
-spread_ends k R xs ys q e h j u m = (
-  λ x. elim ((h j u m).0 x) [ inl y ↦ inl y | inr y ↦ inr y.1 ],
-  λ x. elim x [
-    | inl y ↦ (h j u m).1 (inl y)
-    | inr y ↦ let b = both_out (R u) (nexts k (at j)) m y in (h j u m).1 (inr (omega (arith, step_low k j b.n b.right), y))
-  ],
-)

@@ -3,9 +3,6 @@ use Rattle.std.specs.Prelude.{◌≡◌, Some, None, Option}
 use Rattle.action.specs.declared.deed.Deed.{Deed}
 use Rattle.action.specs.Deeds.{address, signal}
 use Rattle.sheet.specs.declared.step.Step.{Step}
-use Rattle.sheet.specs.declared.diagram.Fragment.{Fragment}
-use Rattle.sheet.specs.declared.diagram.Variables.{Variables}
-use Rattle.followers.specs.Accepts.{Fires}
 
 -- the one value that P holds of, or None where it holds of none
 abbrev pub Finds : {X : Type 0} → (X → Type 0) → Option X → Type 0
@@ -15,8 +12,3 @@ Finds {X} P (Some u) = P u × ((w : X) → P w → w ≡ u)
 -- the step is of the deed's partner and signal
 abbrev pub Suits : Step → Deed → Type 0
 Suits s d = (address d ≡ s.address) × (signal d ≡ s.signal)
-
--- the step that a fragment is, where it suits the deed; without one it does not fire
-abbrev pub Suited : Fragment → Deed → Option Step → Type 0
-Suited f d None = (v u : Variables) → Fires f v d u → ⊥
-Suited f d (Some s) = (f ≡ Fragment.Step s) × Suits s d

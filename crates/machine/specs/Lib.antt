@@ -1,4 +1,5 @@
 pub mod Firing
+pub mod Suited
 pub mod Pairs
 pub mod Charts
 pub mod Going

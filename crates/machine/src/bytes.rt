@@ -3,14 +3,18 @@ ghost use Rattle.std.specs.Prelude.{◌≡◌, ℕ, ◌<◌, Bool, true, ◌&&�
 ghost use Rattle.sheet.specs.Empties.{has, both, must};
 ghost use Rattle.sheet.specs.Meaning.{Takes};
 ghost use Rattle.followers.specs.Words.{bit};
-ghost use Rattle.machine.specs.Firing.{Suits};
-ghost use Rattle.machine.specs.Pairs.{marks_of, seen, may, Reached};
+ghost use Rattle.machine.specs.Pairs.{marks_of, place, seen, may, Reached};
 
-use crate::fire::fire;
-use action::deed::Deed;
+use crate::fire::Firing;
 use sheet::diagram::Variables;
 use sheet::marks::Marks;
-use sheet::step::Step;
+
+// The place of a pair among 256.
+pub(crate) fn place(v: Variables) -> usize
+    ensures { result ≡ place v }
+{
+    v.x as usize * 16 + v.y as usize
+}
 
 fn when(on: bool, b: u8) -> u8
     ensures { (p : ℕ) → bit result p ≡ on && bit b p }
@@ -25,41 +29,41 @@ fn only_marked(b: u8) -> u8
 }
 
 // The marks of b carried on to what follows with the marks `next`.
-pub(crate) fn carry(b: u8, next: Marks) -> u8
+fn carry(b: u8, next: Marks) -> u8
     ensures { marks_of result ≡ both (marks_of b) next }
 {
     when(next.plain, b) | when(next.marked, only_marked(b))
 }
 
-// Adds the marks b where the step takes the deed from v.
-fn land(step: Step, v: Variables, d: Deed, b: u8, reached: &mut [u8; 256])
-    requires suits { Suits step d }
-    requires small { (v.x < 16) × (v.y < 16) }
-    ensures { (w : Variables) (m : Bool) → T (has (seen reached.new w) m) ↔ (T (has (seen reached.old w) m) ⊎ (T (has (marks_of b) m) × Takes step v d w)) }
-{
-    if b == 0 {
-        return;
+impl Firing {
+    // Adds the marks b where the step takes the deed from v.
+    fn land(self, v: Variables, b: u8, reached: &mut [u8; 256])
+        requires { (v.x < 16) × (v.y < 16) }
+        ensures { (w : Variables) (m : Bool) → T (has (seen reached.new w) m) ↔ (T (has (seen reached.old w) m) ⊎ (T (has (marks_of b) m) × Takes self.step v self.deed w)) }
+    {
+        if b == 0 {
+            return;
+        }
+        if let Some(u) = self.fire(v) {
+            reached[place(u)] |= b;
+        }
     }
-    if let Some(u) = fire(step, v, d) {
-        reached[u.x as usize * 16 + u.y as usize] |= b;
-    }
-}
 
-// The pairs that the step reaches on the deed from those at which it may be taken, with their marks.
-pub(crate) fn fire_step(step: Step, d: Deed, marks: &[u8; 16384], p: usize) -> [u8; 256]
-    requires suits { Suits step d }
-    requires here { p < 64 }
-    ensures { (u : Variables) (m : Bool) → T (has (seen result u) m) ↔ Reached (may marks.now p) step d u m }
-{
-    let mut reached = [0; 256];
-    for i in 0..256usize {
-        let v = Variables {
-            x: (i / 16) as u8,
-            y: (i % 16) as u8,
-        };
-        land(step, v, d, marks[p * 256 + i], &mut reached);
+    // The pairs that the step, of the fragment p, reaches on the deed from those at which it may be taken, with their marks.
+    pub(crate) fn reached(self, marks: &[u8; 16384], p: usize) -> [u8; 256]
+        requires { p < 64 }
+        ensures { (u : Variables) (m : Bool) → T (has (seen result u) m) ↔ Reached (may marks.now p) self.step self.deed u m }
+    {
+        let mut reached = [0; 256];
+        for (i, b) in marks[p * 256..p * 256 + 256].iter().enumerate() {
+            let v = Variables {
+                x: (i / 16) as u8,
+                y: (i % 16) as u8,
+            };
+            self.land(v, *b, &mut reached);
+        }
+        reached
     }
-    reached
 }
 
 // Adds what is reached to the marks of the step q, which follows with the marks `next`.
@@ -70,8 +74,8 @@ pub(crate) fn spread(reached: &[u8; 256], q: usize, next: Marks, marks: &mut [u8
     if !next.plain && !next.marked {
         return;
     }
-    for i in 0..256usize {
-        marks[q * 256 + i] |= carry(reached[i], next);
+    for (i, b) in reached.iter().enumerate() {
+        marks[q * 256 + i] |= carry(*b, next);
     }
 }
 
@@ -82,8 +86,9 @@ pub(crate) fn ends_at(reached: &[u8; 256], next: Marks) -> bool
     if !next.plain && !next.marked {
         return false;
     }
-    for i in 0..256usize {
-        if carry(reached[i], next) / 2 % 2 == 1 {
+    // Stays: no `any`, which is slower over these bytes.
+    for b in reached {
+        if carry(*b, next) / 2 % 2 == 1 {
             return true;
         }
     }

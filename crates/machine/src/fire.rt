@@ -1,23 +1,11 @@
 // One step, one deed, one pair of x and y.
 ghost use Rattle.std.specs.Prelude.{◌≡◌, Decides};
-ghost use Rattle.sheet.specs.Meaning.{value, Holds, Passes as GuardPasses, Puts, Changes, Takes};
-ghost use Rattle.machine.specs.Firing.{Finds, Suits, Suited};
+ghost use Rattle.sheet.specs.Meaning.{value, Holds, Passes, Puts, Changes, Takes};
+ghost use Rattle.machine.specs.Firing.{Finds, Suits};
 
 use action::deed::Deed;
 use sheet::diagram::{Fragment, Variables};
-use sheet::step::{Change, Comparison, Guard, Step, Term, Variable};
-
-fn value_of(t: Term, v: Variables, d: Deed) -> u8
-    ensures { result ≡ value t v d }
-{
-    match t {
-        Term::Number(n) => n,
-        Term::X => v.x,
-        Term::Y => v.y,
-        Term::First => d.first(),
-        Term::Second => d.second(),
-    }
-}
+use sheet::step::{Comparison, Step, Term, Variable};
 
 fn holds(comparison: Comparison, a: u8, b: u8) -> bool
     ensures { Decides result (Holds comparison a b) }
@@ -29,19 +17,6 @@ fn holds(comparison: Comparison, a: u8, b: u8) -> bool
         Comparison::AtMost => a <= b,
         Comparison::Greater => a > b,
         Comparison::AtLeast => a >= b,
-    }
-}
-
-fn passes(guard: Option<Guard>, v: Variables, d: Deed) -> bool
-    ensures { Decides result (GuardPasses guard v d) }
-{
-    match guard {
-        Some(g) => holds(
-            g.comparison,
-            value_of(g.left, v, d),
-            value_of(g.right, v, d),
-        ),
-        None => true,
     }
 }
 
@@ -57,39 +32,80 @@ fn put(target: Variable, n: u16, v: Variables) -> Option<Variables>
     }
 }
 
-fn changed(change: Option<Change>, v: Variables, d: Deed) -> Option<Variables>
-    ensures { Finds (λ u. Changes change v d u) result }
-{
-    match change {
-        Some(c) => put(c.target, value_of(c.source, v, d) as u16 + c.add as u16, v),
-        None => Some(v),
-    }
+// A step and a deed that it suits.
+#[derive(Clone, Copy)]
+pub(crate) struct Firing {
+    pub(crate) step: Step,
+    pub(crate) deed: Deed,
+    ghost suits: { Suits step deed },
 }
 
-// The step of a fragment, where it suits the deed.
-pub(crate) fn suited(f: Fragment, d: Deed) -> Option<Step>
-    ensures { Suited f d result }
-{
-    match f {
-        Fragment::Step(s) => {
-            if d.address() == s.address && d.signal() == s.signal {
-                Some(s)
-            } else {
-                None
+impl Firing {
+    ghost use Rattle.machine.specs.Suited.{Suited};
+
+    // The fragment as a step, where it suits the deed.
+    pub(crate) fn of(f: Fragment, d: Deed) -> Option<Firing>
+        ensures { Suited f d result }
+    {
+        match f {
+            Fragment::Step(step) if d.address() == step.address && d.signal() == step.signal => {
+                Some(Firing { step, deed: d })
             }
+            _ => None,
         }
-        _ => None,
     }
-}
 
-// The variables after the deed, where the step takes it.
-pub(crate) fn fire(step: Step, v: Variables, d: Deed) -> Option<Variables>
-    requires { Suits step d }
-    ensures { Finds (λ u. Takes step v d u) result }
-{
-    if passes(step.guard, v, d) {
-        changed(step.change, v, d)
-    } else {
-        None
+    // What a term says at v.
+    fn value_of(self, t: Term, v: Variables) -> u8
+        ensures { result ≡ value t v self.deed }
+    {
+        // Read before the branches: where each of them reads it, the loop over pairs is slower.
+        let deed = self.deed;
+        match t {
+            Term::Number(n) => n,
+            Term::X => v.x,
+            Term::Y => v.y,
+            Term::First => deed.first(),
+            Term::Second => deed.second(),
+        }
+    }
+
+    // Whether the step's guard passes at v.
+    fn passes(self, v: Variables) -> bool
+        ensures { Decides result (Passes self.step.guard v self.deed) }
+    {
+        match self.step.guard {
+            Some(g) => holds(
+                g.comparison,
+                self.value_of(g.left, v),
+                self.value_of(g.right, v),
+            ),
+            None => true,
+        }
+    }
+
+    // What the step's change leads to from v.
+    fn changed(self, v: Variables) -> Option<Variables>
+        ensures { Finds (λ u. Changes self.step.change v self.deed u) result }
+    {
+        match self.step.change {
+            Some(c) => put(
+                c.target,
+                self.value_of(c.source, v) as u16 + c.add as u16,
+                v,
+            ),
+            None => Some(v),
+        }
+    }
+
+    // The variables after the deed, where the step takes it.
+    pub(crate) fn fire(self, v: Variables) -> Option<Variables>
+        ensures { Finds (λ u. Takes self.step v self.deed u) result }
+    {
+        if self.passes(v) {
+            self.changed(v)
+        } else {
+            None
+        }
     }
 }

@@ -14,6 +14,7 @@ pub struct Line {
 }
 
 // Adds the lines of a fragment.
+#[tactic(auto, using(sheet::proofs::Facts::accepted_sizes))]
 fn add(sheet: &Sheet, i: usize, depth: usize, lines: &mut Vec<Line>) -> Result<(), AllocError>
     requires here { i < sheet.now.diagram.count }
     requires shallow { depth + i ≤ 64 }
@@ -32,6 +33,7 @@ fn add(sheet: &Sheet, i: usize, depth: usize, lines: &mut Vec<Line>) -> Result<(
 }
 
 /// The lines of a sheet: the whole first, and each fragment before its parts.
+#[tactic(auto, using(sheet::proofs::Facts::accepted_sizes))]
 pub fn outline(heap: Global, sheet: &Sheet) -> Result<Vec<Line>, AllocError>
     ensures { IfOk result (λ v. v.items ≡ outline_of sheet.now.diagram) }
 {

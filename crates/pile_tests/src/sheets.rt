@@ -34,7 +34,7 @@ fn a_pile_over_calls(rt: HostRuntime) -> Result<(), Fail> {
     load_sheet(&SHEET, &mut sheet)?;
     let mut table = Translation::none();
     load_translation(&TABLE, &mut table)?;
-    let narrowed = Narrowed::new(SheetWatch::new(&sheet), Partner::new(2)?);
+    let narrowed = Narrowed::new(SheetWatch::new(&sheet), Partner::try_from(2)?);
     let pile = Translated::new(Pair::new(narrowed, Cap::new(3, 2)?), table);
     let mut gate = Gate::open(pile, Board::new());
     assert_eq!(rt; gate.submit(&call(1)?).number(), 0, "a 4 before any 3");

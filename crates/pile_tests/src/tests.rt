@@ -15,6 +15,7 @@ use watch::watch::Watch;
 // Family 1 form 0 becomes signal 3 to partner 0 with the first two arguments, family 2 form 1 signal 3 to partner 1.
 const TWO_ROWS: [u8; 11] = [2, 8, 17, 0, 3, 1, 2, 1, 3, 0, 0];
 
+// Stays: crates of tests share no library, and each makes the deeds that it needs.
 fn deed(partner: u8, signal: u8) -> Result<Deed, Fault> {
     Deed::from_bytes(&[partner, signal, 0, 0])
 }
@@ -25,29 +26,31 @@ fn call(family: u8, form: u8) -> Result<Call, Fault> {
 
 // How many actions come before the first that is barred; those are noted.
 fn passed<W: Watch>(watch: &mut W, list: &[W::Act]) -> usize {
-    for i in 0..list.len() {
-        if watch.bars(&list[i]) {
+    for (i, action) in list.iter().enumerate() {
+        if watch.bars(action) {
             return i;
         }
-        watch.note(&list[i]);
+        watch.note(action);
     }
     list.len()
 }
 
+// The number and the place of a refusal.
+// Stays: numbers, which are what is promised of a refusal.
+fn told(fault: Fault) -> (u8, usize) {
+    (fault.number(), fault.place())
+}
+
 // The number and the place of a refused load, 0 and 0 of an accepted one.
 fn refusal(bytes: &[u8]) -> (u8, usize) {
-    let mut place = Translation::none();
-    match load_translation(bytes, &mut place) {
-        Ok(()) => (0, 0),
-        Err(fault) => (fault.number(), fault.place()),
-    }
+    load_translation(bytes, &mut Translation::none()).map_or_else(told, |_| (0, 0))
 }
 
 #[test]
 fn a_pile(rt: HostRuntime) -> Result<(), Fail> {
     let mut table = Translation::none();
     load_translation(&TWO_ROWS, &mut table)?;
-    let none_to_one = Narrowed::new(Cap::new(3, 0)?, Partner::new(1)?);
+    let none_to_one = Narrowed::new(Cap::new(3, 0)?, Partner::try_from(1)?);
     let mut pile = Translated::new(Pair::new(none_to_one, Cap::new(3, 2)?), table);
     let there = call(1, 0)?;
     let nowhere = call(1, 1)?;
@@ -109,11 +112,8 @@ fn ordered(pairs: &[(u8, u8)], signals: &[u8; 4]) -> Result<(u8, usize), Fault> 
         deed(3, signals[3])?,
     ];
     match Order::new(pairs) {
-        Ok(order) => {
-            let mut order = order;
-            Ok((0, passed(&mut order, &list)))
-        }
-        Err(fault) => Ok((fault.number(), fault.place())),
+        Ok(mut order) => Ok((0, passed(&mut order, &list))),
+        Err(fault) => Ok(told(fault)),
     }
 }
 
@@ -144,11 +144,11 @@ fn orders(rt: HostRuntime) -> Result<(), Fail> {
 
 #[test]
 fn out_of_range(rt: HostRuntime) -> Result<(), Fail> {
-    assert_eq!(rt; Partner::new(8).err(), Some(Fault::OutOfRange));
+    assert_eq!(rt; Partner::try_from(8).err(), Some(Fault::OutOfRange));
     match Cap::<Deed>::new(32, 1) {
         Ok(_) => Err(Fail::new("32 is no kind")),
         Err(fault) => {
-            assert_eq!(rt; (fault.number(), fault.place()), (13, 0));
+            assert_eq!(rt; told(fault), (13, 0));
             Ok(())
         },
     }
@@ -156,7 +156,7 @@ fn out_of_range(rt: HostRuntime) -> Result<(), Fail> {
 
 #[test]
 fn broken_piles(rt: HostRuntime) -> Result<(), Fail> {
-    let mut narrow = Narrowed::new(Cap::new(3, 0)?, Partner::new(1)?);
+    let mut narrow = Narrowed::new(Cap::new(3, 0)?, Partner::try_from(1)?);
     narrow.note(&deed(2, 3)?);
     assert!(rt; !narrow.bars(&deed(2, 3)?), "not shown below");
     narrow.note(&deed(1, 3)?);

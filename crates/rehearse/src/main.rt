@@ -2,59 +2,49 @@
 //! prints how far it would get.
 #![tactic(auto)]
 
-ghost use Rattle.std.specs.Prelude.{◌≤◌};
-
 use action::deed::Deed;
 use file_input::files::{read_rule, read_run};
-use file_input::folders::folders;
-use file_input::tell::{tell_folder, tell_refusal};
+use file_input::folders::{Program, for_each_folder};
+use file_input::tell::tell_refusal;
 use run_file::MOST_DEEDS;
 use sheet::sheet::Sheet;
 use sheet_watch::rehearsal::rehearse;
 use sheet_watch::watching::SheetWatch;
 use std::io;
 
-// Rehearses the first n of the deeds.
-fn show(rt: &HostRuntime, sheet: &Sheet, deeds: &[Deed; MOST_DEEDS], n: usize) -> io::Result<()>
-    requires { n ≤ 8000 }
-{
-    let deeds = &deeds[0..n];
+fn show(rt: &HostRuntime, sheet: &Sheet, deeds: &[Deed]) -> io::Result<()> {
     let mut watch = SheetWatch::new(sheet);
     let before = rehearse(&mut watch, deeds);
-    println!(rt; "{before} of {n} deeds before the first barred")?;
+    println!(rt; "{before} of {} deeds before the first barred", deeds.len())?;
     let Some(deed) = deeds.get(before) else {
         return println!(rt; "barred: none");
     };
-    let partner = deed.partner().value();
-    let signal = deed.signal();
-    let first = deed.first();
-    let second = deed.second();
     println!(rt;
-        "barred: deed {before}, partner {partner}, signal {signal}, arguments {first} and {second}"
+        "barred: deed {before}, partner {}, signal {}, arguments {} and {}",
+        deed.partner().value(),
+        deed.signal(),
+        deed.first(),
+        deed.second()
     )
 }
 
-fn account(rt: &HostRuntime, folder: &str) -> anyhow::Result<()> {
-    let mut sheet = Sheet::blank();
-    if let Err(fault) = read_rule(rt, folder, &mut sheet)? {
-        return Ok(tell_refusal(rt, "sheet", fault)?);
-    }
-    let none = Deed::reading(0, 0, 0, 0);
-    let mut deeds = [none; MOST_DEEDS];
-    match read_run(rt, folder, &mut deeds)? {
-        Ok(n) => Ok(show(rt, &sheet, &deeds, n)?),
-        Err(fault) => Ok(tell_refusal(rt, "run", fault)?),
-    }
-}
+struct Rehearse;
 
-fn run(rt: &HostRuntime) -> anyhow::Result<()> {
-    for folder in folders(rt)?.iter() {
-        tell_folder(rt, folder.as_str())?;
-        account(rt, folder.as_str())?;
+impl Program for Rehearse {
+    fn account(&self, rt: &HostRuntime, folder: &str) -> anyhow::Result<()> {
+        let mut sheet = Sheet::blank();
+        if let Err(fault) = read_rule(rt, folder, &mut sheet)? {
+            return Ok(tell_refusal(rt, "sheet", fault)?);
+        }
+        let none = Deed::reading(0, 0, 0, 0);
+        let mut deeds = [none; MOST_DEEDS];
+        match read_run(rt, folder, &mut deeds)? {
+            Ok(n) => Ok(show(rt, &sheet, &deeds[..n])?),
+            Err(fault) => Ok(tell_refusal(rt, "run", fault)?),
+        }
     }
-    Ok(())
 }
 
 fn main(rt: HostRuntime) -> anyhow::Result<()> {
-    run(&rt)
+    for_each_folder(&rt, &Rehearse)
 }

@@ -1,6 +1,7 @@
 -- What the bytes of a run say, and what is refused of them.
 use Rattle.std.specs.Prelude.{ℕ, ◌+◌, ◌*◌, ◌/◌, ◌%◌, Bool, not, ◌&&◌, ◌||◌, List, map, length, ◌==◌, nat_le, nat_lt, slice_index}
-use Rattle.std.specs.List.{range_with_len}
+use Rattle.std.specs.List.{between, range_with_len}
+use Rattle.std.specs.Simd.{first_chunks}
 use Rattle.fault.specs.declared.fault.Fault.TheVariants.{RunShape, ActionBytes}
 use Rattle.fault.specs.Checks.{Check, ◌then◌, refuse_if, refuse_at, lowest}
 use Rattle.action.specs.declared.deed.Deed.{Deed}
@@ -14,6 +15,20 @@ count_of b = slice_index b 0 + 256 * slice_index b 1
 -- 14: shorter than two bytes, a count above 8,000, or a length that is not 2 + 3 × count
 abbrev pub shape_check : List ℕ → Check
 shape_check b = refuse_if RunShape (nat_lt (length b) 2 || (nat_lt 8000 (count_of b) || not (length b == 2 + 3 * count_of b)))
+
+-- the pair of each deed, partner and signal, and after all pairs the arguments of each
+abbrev pub heads_of : List ℕ → List (List ℕ)
+heads_of b = first_chunks 2 (count_of b) (between 2 (2 + 2 * count_of b) b)
+
+abbrev pub arguments_of : List ℕ → List ℕ
+arguments_of b = between (2 + 2 * count_of b) (length b) b
+
+abbrev pub head_fits : List ℕ → Bool
+head_fits h = nat_le (slice_index h 0) highest_address && nat_le (slice_index h 1) highest_kind
+
+-- the deed of a pair and a byte of arguments, 16 × first + second
+abbrev pub deed_in : List ℕ × ℕ → Deed
+deed_in d = reading (slice_index d.0 0) (slice_index d.0 1) (d.1 / 16) (d.1 % 16)
 
 -- the pair of the deed i, partner and signal, is in its ranges
 abbrev pub deed_fits : List ℕ → ℕ → Bool

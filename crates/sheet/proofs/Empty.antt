@@ -1,5 +1,6 @@
 -- The marks of the empty runs are those that the meaning has.
-use Rattle.std.proofs.Common.{◌≡◌, ℕ, zero, suc, Bool, true, false, cond, ◌||◌, T, eqb, List, [], ◌∷◌, ◌++◌, sym, refl, ◌∙◌, subst, inl, inr, arith}
+use Rattle.std.proofs.Common.{◌≡◌, ℕ, zero, suc, Bool, true, false, cond, ◌||◌, T, eqb, List, [], ◌++◌, length, length-append, sym, refl, ap, ◌∙◌, subst, inl, inr, arith}
+use Rattle.std.proofs.lemmas.List.{nil_from_length}
 use Rattle.action.specs.declared.deed.Deed.{Deed}
 use Rattle.sheet.specs.declared.diagram.Fragment.{Fragment}
 use Rattle.sheet.specs.declared.diagram.Fragment.TheVariants.{Skip, Seq, Alt, Loop, Neg}
@@ -13,16 +14,11 @@ use Rattle.sheet.specs.Laws.{EmptyMeans, EmptyRuleMeans}
 use Rattle.sheet.proofs.Bools.{T_true}
 use Rattle.sheet.proofs.Both.{both_in, both_out, either_l, either_r, either_out, must_in, must_out}
 
-cons_nil : {X : Type 0} (x : X) (l : List X) → x ∷ l ≡ [] → ⊥
-cons_nil x l e = let z : ◌≡◌ {A = ℕ} 0 1 = cc in omega arith
-
 left_nil : {X : Type 0} (a b : List X) → a ++ b ≡ [] → a ≡ []
-left_nil [] b e = refl
-left_nil (x ∷ a) b e = absurd (cons_nil x (a ++ b) e)
+left_nil a b e = nil_from_length a (omega (arith, length-append a b, ap length e))
 
 right_nil : {X : Type 0} (a b : List X) → a ++ b ≡ [] → b ≡ []
-right_nil [] b e = e
-right_nil (x ∷ a) b e = absurd (cons_nil x (a ++ b) e)
+right_nil a b e = nil_from_length b (omega (arith, length-append a b, ap length e))
 
 any_in : (a : Marks) (m n : Bool) → T (has a m) → T (has (any a) n) → T (has (any a) (m || n))
 any_in a false n h g = g
@@ -57,7 +53,7 @@ covers_rounds k R g (round {v = v} {w = w} {u = u} {a = a} {b = b} {m = m} {n = 
 covers_of : (f : Fragment) (N : ℕ → Marks) (R : ℕ → Runs) → ((i : ℕ) → Covers (N i) (R i)) → Covers (empty_of f N) (Of f R)
 covers_of Skip N R g v u l false (a, b, c) e = tt
 covers_of Skip N R g v u l true (a, b, c) e = let z : ◌≡◌ {A = ℕ} 0 1 = cc in absurd (omega arith)
-covers_of (Fragment.Step s) N R g v u l m (d, a, b, c) e = absurd (cons_nil d [] (sym a ∙ e))
+covers_of (Fragment.Step s) N R g v u l m (d, a, b, c) e = absurd (omega (arith, ap length (sym a ∙ e)))
 covers_of (Seq i j) N R g v u l m x e =
     let f : x.front ++ x.back ≡ [] = sym x.deeds ∙ e in
     subst (λ (k : Bool). T (has (both (N i) (N j)) k)) (sym x.mark)

@@ -1,4 +1,5 @@
 pub mod Index
+pub mod Drawn
 pub mod Bools
 pub mod Falling
 pub mod Empty

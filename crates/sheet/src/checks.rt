@@ -1,6 +1,6 @@
 // The rules of a diagram, each over all of it.
-ghost use Rattle.std.specs.Prelude.{◌≡◌, ℕ, ◌<◌, ◌≤◌};
-ghost use Rattle.fault.specs.Checks.{one_if};
+ghost use Rattle.std.specs.Prelude.{◌≡◌, ℕ, ◌+◌, ◌<◌, ◌≤◌, not, ◌&&◌, ◌||◌, ◌==◌, length, position, count_by, sum_by};
+ghost use Rattle.std.specs.List.{enumerate_from};
 ghost use Rattle.sheet.specs.Forbid.{fragment};
 ghost use Rattle.sheet.specs.Laws.{Earlier};
 ghost use Rattle.sheet.specs.Rules.{
@@ -13,17 +13,14 @@ ghost use Rattle.sheet.specs.Rules.{
   ranges_check,
   names_late,
   names,
-  times_named as times,
-  misplaced as is_misplaced,
   tree_check,
   is_step as step_there,
-  steps_in,
   steps_check,
   empty_check,
 };
 
 use crate::diagram::{Diagram, Fragment};
-use crate::emptiness::emptiness;
+use crate::headed::Headed;
 use crate::judge::header_fits;
 use crate::step::{Change, Guard, Step, Term};
 use action::deed::{HIGHEST_ADDRESS, HIGHEST_ARGUMENT};
@@ -33,7 +30,7 @@ use fault::fault::Fault;
 pub(crate) fn check_header(d: &Diagram) -> Result<(), Fault>
     ensures { result ≡ header_check d.now }
 {
-    if header_fits(d.count, d.steps, d.start.x, d.start.y) {
+    if header_fits(d.count, d.steps, d.start) {
         Ok(())
     } else {
         Err(Fault::SheetHeader)
@@ -52,19 +49,13 @@ fn term_in_range(t: Term) -> bool
 fn guard_in_range(guard: Option<Guard>) -> bool
     ensures { result ≡ guard_fits guard }
 {
-    match guard {
-        Some(g) => term_in_range(g.left) && term_in_range(g.right),
-        None => true,
-    }
+    guard.is_none_or(|g| term_in_range(g.left) && term_in_range(g.right))
 }
 
 fn change_in_range(change: Option<Change>) -> bool
     ensures { result ≡ change_fits change }
 {
-    match change {
-        Some(c) => term_in_range(c.source) && c.add <= HIGHEST_ARGUMENT,
-        None => true,
-    }
+    change.is_none_or(|c| term_in_range(c.source) && c.add <= HIGHEST_ARGUMENT)
 }
 
 fn step_in_range(s: Step) -> bool
@@ -85,18 +76,6 @@ fn in_range(f: Fragment) -> bool
     }
 }
 
-pub(crate) fn check_ranges(d: &Diagram) -> Result<(), Fault>
-    requires { d.now.count ≤ 64 }
-    ensures { result ≡ ranges_check d.now }
-{
-    for i in 0..d.count {
-        if !in_range(d.fragments[i]) {
-            return Err(Fault::FragmentRow(i));
-        }
-    }
-    Ok(())
-}
-
 fn names_later(f: Fragment, i: usize) -> bool
     ensures { result ≡ names_late f i }
 {
@@ -107,95 +86,91 @@ fn names_later(f: Fragment, i: usize) -> bool
     }
 }
 
-fn count_if(b: bool) -> usize
-    ensures { (result ≡ one_if b) × (result ≤ 1) }
-{
-    if b { 1 } else { 0 }
-}
-
 fn times_in(f: Fragment, part: usize) -> usize
     ensures is { result ≡ names f part }
     ensures most { result ≤ 2 }
 {
     match f {
         Fragment::Skip | Fragment::Step(_) => 0,
-        Fragment::Seq(l, r) | Fragment::Alt(l, r) => count_if(part == l) + count_if(part == r),
-        Fragment::Loop(b) | Fragment::Neg(b) => count_if(part == b),
+        Fragment::Seq(l, r) | Fragment::Alt(l, r) => usize::from(part == l)
+            + usize::from(part == r),
+        Fragment::Loop(b) | Fragment::Neg(b) => usize::from(part == b),
     }
-}
-
-fn times_named(d: &Diagram, part: usize) -> usize
-    requires { d.now.count ≤ 64 }
-    ensures { result ≡ times d.now part }
-{
-    let mut n = 0;
-    for i in 0..d.count {
-        n += times_in(d.fragments[i], part);
-    }
-    n
-}
-
-fn misplaced(d: &Diagram, i: usize) -> bool
-    requires few { d.now.count ≤ 64 }
-    requires here { i < d.now.count }
-    ensures { result ≡ is_misplaced d.now i }
-{
-    names_later(d.fragments[i], i) || (i + 1 != d.count && times_named(d, i) != 1)
-}
-
-pub(crate) fn check_tree(d: &Diagram) -> Result<(), Fault>
-    requires { d.now.count ≤ 64 }
-    ensures { result ≡ tree_check d.now }
-{
-    for i in 0..d.count {
-        if misplaced(d, i) {
-            return Err(Fault::FragmentTree(i));
-        }
-    }
-    Ok(())
 }
 
 fn is_step(f: Fragment) -> bool
     ensures { result ≡ step_there f }
 {
-    match f {
-        Fragment::Step(_) => true,
-        _ => false,
-    }
+    matches!(f, Fragment::Step(_))
 }
 
-fn count_steps(d: &Diagram) -> usize
-    requires { d.now.count ≤ 64 }
-    ensures { result ≡ steps_in d.now }
+fn first_outside(fragments: &[Fragment]) -> Option<usize>
+    ensures { result ≡ position (λ f. not (fragment_fits f)) fragments.now }
 {
-    let mut n = 0;
-    for i in 0..d.count {
-        n += count_if(is_step(d.fragments[i]));
-    }
-    n
+    fragments.iter().position(|f| !in_range(*f))
 }
 
-pub(crate) fn check_steps(d: &Diagram) -> Result<(), Fault>
-    requires { d.now.count ≤ 64 }
-    ensures { result ≡ steps_check d.now }
+fn times_named(fragments: &[Fragment], part: usize) -> usize
+    ensures { result ≡ sum_by (λ f. names f part) fragments.now }
 {
-    if count_steps(d) == d.steps {
-        Ok(())
-    } else {
-        Err(Fault::StepCount)
-    }
+    fragments.iter().map(|f| times_in(*f, part)).sum()
 }
 
-pub(crate) fn check_empty(d: &Diagram) -> Result<(), Fault>
-    requires some { 1 ≤ d.now.count }
-    requires few { d.now.count ≤ 64 }
-    requires earlier { (j : ℕ) → j < d.now.count → Earlier (fragment d.now j) j }
-    ensures { result ≡ empty_check d.now }
+// The first that names a part not earlier than itself, or is not the last and is not named exactly once.
+fn first_misplaced(fragments: &[Fragment]) -> Option<usize>
+    ensures { result ≡ position
+        (λ q. names_late q.1 q.0 || (not (q.0 + 1 == length fragments.now) && not (sum_by (λ f. names f q.0) fragments.now == 1)))
+        (enumerate_from 0 fragments.now) }
 {
-    let whole = emptiness(d, d.count - 1);
-    if whole.marked {
-        Err(Fault::EmptyNegative)
-    } else {
-        Ok(())
+    fragments.iter().enumerate().position(|(i, f)| names_later(*f, i)
+        || (i + 1 != fragments.len() && times_named(fragments, i) != 1))
+}
+
+fn count_steps(fragments: &[Fragment]) -> usize
+    ensures { result ≡ count_by step_there fragments.now }
+{
+    fragments.iter().filter(|f| is_step(**f)).count()
+}
+
+impl Headed<'_> {
+    // Stays: one function for this and `check_tree` would take the refusal as a closure, and be longer than both.
+    pub(crate) fn check_ranges(&self) -> Result<(), Fault>
+        ensures { result ≡ ranges_check self.now.diagram.now }
+    {
+        match first_outside(self.fragments()) {
+            Some(i) => Err(Fault::FragmentRow(i)),
+            None => Ok(()),
+        }
+    }
+
+    pub(crate) fn check_tree(&self) -> Result<(), Fault>
+        ensures { result ≡ tree_check self.now.diagram.now }
+    {
+        match first_misplaced(self.fragments()) {
+            Some(i) => Err(Fault::FragmentTree(i)),
+            None => Ok(()),
+        }
+    }
+
+    pub(crate) fn check_steps(&self) -> Result<(), Fault>
+        ensures { result ≡ steps_check self.now.diagram.now }
+    {
+        if count_steps(self.fragments()) == self.diagram.steps {
+            Ok(())
+        } else {
+            Err(Fault::StepCount)
+        }
+    }
+
+    pub(crate) fn check_empty(&self) -> Result<(), Fault>
+        requires { (j : ℕ) → j < self.now.diagram.now.count → Earlier (fragment self.now.diagram.now j) j }
+        ensures { result ≡ empty_check self.now.diagram.now }
+    {
+        let whole = self.emptiness(self.diagram.count - 1);
+        if whole.marked {
+            Err(Fault::EmptyNegative)
+        } else {
+            Ok(())
+        }
     }
 }

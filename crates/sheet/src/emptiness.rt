@@ -4,25 +4,26 @@ ghost use Rattle.sheet.specs.Forbid.{fragment};
 ghost use Rattle.sheet.specs.Laws.{Earlier};
 ghost use Rattle.sheet.specs.Empties.{empty_at, EmptyRuns, nothing};
 
-use crate::diagram::{Diagram, Fragment};
+use crate::diagram::Fragment;
+use crate::headed::Headed;
 use crate::marks::Marks;
 use crate::sheet::Sheet;
 
-// Of the fragment i.
-pub(crate) fn emptiness(d: &Diagram, i: usize) -> Marks
-    requires few { d.now.count ≤ 64 }
-    requires earlier { (j : ℕ) → j < d.now.count → Earlier (fragment d.now j) j }
-    requires here { i < d.now.count }
-    ensures { result ≡ empty_at (fragment d.now) i }
-{
-    let f = d.fragments[i];
-    match f {
-        Fragment::Skip => Marks::only_plain(),
-        Fragment::Step(_) => Marks::nothing(),
-        Fragment::Seq(l, r) => emptiness(d, l).and_then(emptiness(d, r)),
-        Fragment::Alt(l, r) => emptiness(d, l).or(emptiness(d, r)),
-        Fragment::Loop(b) => emptiness(d, b).repeated(),
-        Fragment::Neg(b) => emptiness(d, b).negated(),
+impl Headed<'_> {
+    // Of the fragment i.
+    pub(crate) fn emptiness(&self, i: usize) -> Marks
+        requires earlier { (j : ℕ) → j < self.now.diagram.now.count → Earlier (fragment self.now.diagram.now j) j }
+        requires here { i < self.now.diagram.now.count }
+        ensures { result ≡ empty_at (fragment self.now.diagram.now) i }
+    {
+        match self.diagram.fragments[i] {
+            Fragment::Skip => Marks::only_plain(),
+            Fragment::Step(_) => Marks::nothing(),
+            Fragment::Seq(l, r) => self.emptiness(l).and_then(self.emptiness(r)),
+            Fragment::Alt(l, r) => self.emptiness(l).or(self.emptiness(r)),
+            Fragment::Loop(b) => self.emptiness(b).repeated(),
+            Fragment::Neg(b) => self.emptiness(b).negated(),
+        }
     }
 }
 
@@ -34,7 +35,10 @@ impl Sheet {
         ensures none { self.now.diagram.count ≤ i → result ≡ nothing }
     {
         if i < self.diagram.count {
-            emptiness(&self.diagram, i)
+            let headed = Headed {
+                diagram: &self.diagram,
+            };
+            headed.emptiness(i)
         } else {
             Marks::nothing()
         }

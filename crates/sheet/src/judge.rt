@@ -4,8 +4,9 @@ ghost use Rattle.fault.specs.Checks.{or_fault};
 ghost use Rattle.sheet.specs.Rules.{header_fits, verdict};
 ghost use Rattle.sheet.specs.Judged.{drawn, blank};
 
-use crate::checks::{check_empty, check_header, check_ranges, check_steps, check_tree};
+use crate::checks::check_header;
 use crate::diagram::{Diagram, Fragment, Variables};
+use crate::headed::Headed;
 use crate::sheet::Sheet;
 use crate::step::Step;
 use fault::fault::Fault;
@@ -20,14 +21,14 @@ pub const MOST_STEPS: usize = 31;
 pub const HIGHEST_START: u8 = 15;
 
 /// Whether the numbers of a header are in their ranges.
-pub fn header_fits(count: usize, steps: usize, x: u8, y: u8) -> bool
-    ensures { result ≡ header_fits count steps x y }
+pub fn header_fits(count: usize, steps: usize, start: Variables) -> bool
+    ensures { result ≡ header_fits count steps start.x start.y }
 {
     1 <= count
         && count <= MOST_FRAGMENTS
         && steps <= MOST_STEPS
-        && x <= HIGHEST_START
-        && y <= HIGHEST_START
+        && start.x <= HIGHEST_START
+        && start.y <= HIGHEST_START
 }
 
 /// The sheet of a diagram, or the first rule that refuses it: 2, 5, 6, 7 or 8.
@@ -35,10 +36,11 @@ pub fn judge(diagram: Diagram) -> Result<Sheet, Fault>
     ensures { drawn result ≡ or_fault (verdict diagram) diagram }
 {
     check_header(&diagram)?;
-    check_ranges(&diagram)?;
-    check_tree(&diagram)?;
-    check_steps(&diagram)?;
-    check_empty(&diagram)?;
+    let headed = Headed { diagram: &diagram };
+    headed.check_ranges()?;
+    headed.check_tree()?;
+    headed.check_steps()?;
+    headed.check_empty()?;
     Ok(Sheet { diagram })
 }
 

@@ -4,6 +4,7 @@
 mod checks;
 pub mod diagram;
 pub mod emptiness;
+mod headed;
 pub mod judge;
 pub mod laws;
 pub mod marks;

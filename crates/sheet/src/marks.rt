@@ -5,12 +5,14 @@ ghost use Rattle.sheet.specs.Empties.{nothing, only_plain, both, either, must, a
 /// Whether some run is unmarked, and whether some run is marked.
 #[derive(Clone, Copy)]
 pub struct Marks {
+    // Stays: two facts, of which neither says whether the other is there.
     pub plain: bool,
     pub marked: bool,
 }
 
 impl Marks {
     // No run.
+    // Stays: `Marks::default()` would not say that there is none.
     pub(crate) fn nothing() -> Marks
         ensures { result ≡ nothing }
     {
@@ -34,8 +36,8 @@ impl Marks {
         ensures { result ≡ both self next }
     {
         Marks {
-            plain: self.plain & next.plain,
-            marked: (self.marked & (next.plain | next.marked)) | (self.plain & next.marked),
+            plain: self.plain && next.plain,
+            marked: (self.marked && (next.plain || next.marked)) || (self.plain && next.marked),
         }
     }
 
@@ -44,8 +46,8 @@ impl Marks {
         ensures { result ≡ either self other }
     {
         Marks {
-            plain: self.plain | other.plain,
-            marked: self.marked | other.marked,
+            plain: self.plain || other.plain,
+            marked: self.marked || other.marked,
         }
     }
 
@@ -55,7 +57,7 @@ impl Marks {
     {
         Marks {
             plain: false,
-            marked: self.plain | self.marked,
+            marked: self.plain || self.marked,
         }
     }
 

@@ -48,6 +48,7 @@ pub struct Change {
 }
 
 /// One deed: of this partner and signal, under the guard, with the change.
+// Stays: a diagram is drawn, accepted or not, and refusal 5 judges the ranges of its numbers, so they are plain numbers.
 #[derive(Clone, Copy)]
 pub struct Step {
     pub address: u8,

@@ -1,18 +1,10 @@
+use crate::told::told;
 use action::action::Action;
 use action::call::Call;
 use action::deed::Deed;
 use action::kind::Kind;
 use action::partner::Partner;
-use fault::fault::Fault;
 use std::test::Fail;
-
-// The number and place of a refusal, or 0 and 0.
-fn told<T: Drop>(r: Result<T, Fault>) -> (u8, usize) {
-    match r {
-        Ok(_) => (0, 0),
-        Err(f) => (f.number(), f.place()),
-    }
-}
 
 #[test]
 fn deeds(rt: HostRuntime) {
@@ -59,8 +51,8 @@ fn parts(rt: HostRuntime) -> Result<(), Fail> {
 
 #[test]
 fn kinds_and_partners(rt: HostRuntime) {
-    assert_eq!(rt; told(Kind::new(31)), (0, 0));
-    assert_eq!(rt; told(Kind::new(32)), (13, 0));
-    assert_eq!(rt; told(Partner::new(7)), (0, 0));
-    assert_eq!(rt; told(Partner::new(8)), (13, 0));
+    assert_eq!(rt; told(Kind::try_from(31)), (0, 0));
+    assert_eq!(rt; told(Kind::try_from(32)), (13, 0));
+    assert_eq!(rt; told(Partner::try_from(7)), (0, 0));
+    assert_eq!(rt; told(Partner::try_from(8)), (13, 0));
 }

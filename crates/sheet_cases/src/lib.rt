@@ -9,3 +9,5 @@ mod machines;
 mod runs;
 #[cfg(test)]
 mod sheets;
+#[cfg(test)]
+mod told;

@@ -1,24 +1,29 @@
+use crate::told::told;
 use action::deed::Deed;
 use run_file::{MOST_DEEDS, load_run};
 
 // How many deeds; or 0, and the number and place of the refusal.
-fn told(bytes: &[u8]) -> (usize, u8, usize) {
+// Stays: numbers, as in `told`.
+fn loaded(bytes: &[u8]) -> (usize, u8, usize) {
     let mut deeds = [Deed::reading(7, 31, 15, 15); MOST_DEEDS];
-    match load_run(bytes, &mut deeds) {
-        Ok(n) => (n, 0, 0),
-        Err(f) => (0, f.number(), f.place()),
-    }
+    let outcome = load_run(bytes, &mut deeds);
+    let (number, place) = told(outcome);
+    (outcome.unwrap_or(0), number, place)
 }
 
 #[test]
 fn shapes(rt: HostRuntime) {
-    assert_eq!(rt; told(&[]), (0, 14, 0));
-    assert_eq!(rt; told(&[0]), (0, 14, 0));
-    assert_eq!(rt; told(&[0, 0]), (0, 0, 0));
-    assert_eq!(rt; told(&[0, 0, 0]), (0, 14, 0));
-    assert_eq!(rt; told(&[1, 0, 0, 3]), (0, 14, 0));
-    assert_eq!(rt; told(&[64, 31]), (0, 14, 0), "8,000 deeds, and none there");
-    assert_eq!(rt; told(&[65, 31]), (0, 14, 0), "8,001 deeds");
+    assert_eq!(rt; loaded(&[]), (0, 14, 0));
+    assert_eq!(rt; loaded(&[0]), (0, 14, 0));
+    assert_eq!(rt; loaded(&[0, 0]), (0, 0, 0));
+    assert_eq!(rt; loaded(&[0, 0, 0]), (0, 14, 0));
+    assert_eq!(rt; loaded(&[1, 0, 0, 3]), (0, 14, 0));
+    assert_eq!(rt;
+        loaded(&[64, 31]),
+        (0, 14, 0),
+        "8,000 deeds, and none there"
+    );
+    assert_eq!(rt; loaded(&[65, 31]), (0, 14, 0), "8,001 deeds");
 }
 
 #[test]
@@ -26,18 +31,18 @@ fn longest(rt: HostRuntime) {
     let mut b = [0; 24005];
     b[0] = 64;
     b[1] = 31;
-    assert_eq!(rt; told(&b[0..24002]), (8000, 0, 0));
-    assert_eq!(rt; told(&b), (0, 14, 0));
+    assert_eq!(rt; loaded(&b[0..24002]), (8000, 0, 0));
+    assert_eq!(rt; loaded(&b), (0, 14, 0));
     b[0] = 65;
-    assert_eq!(rt; told(&b), (0, 14, 0), "8,001 deeds");
+    assert_eq!(rt; loaded(&b), (0, 14, 0), "8,001 deeds");
 }
 
 #[test]
 fn deeds(rt: HostRuntime) {
-    assert_eq!(rt; told(&[2, 0, 7, 31, 0, 0, 255, 0]), (2, 0, 0));
-    assert_eq!(rt; told(&[2, 0, 7, 31, 8, 0, 0, 0]), (0, 12, 1));
+    assert_eq!(rt; loaded(&[2, 0, 7, 31, 0, 0, 255, 0]), (2, 0, 0));
+    assert_eq!(rt; loaded(&[2, 0, 7, 31, 8, 0, 0, 0]), (0, 12, 1));
     assert_eq!(rt;
-        told(&[2, 0, 7, 32, 8, 0, 0, 0]),
+        loaded(&[2, 0, 7, 32, 8, 0, 0, 0]),
         (0, 12, 0),
         "the lowest of two"
     );

@@ -1,13 +1,11 @@
+use crate::told::told;
 use sheet::sheet::Sheet;
 use sheet_file::load::load_sheet;
 
 // The number and place of the refusal, or 0 and 0.
+// Stays: numbers, as in `told`.
 fn verdict(bytes: &[u8]) -> (u8, usize) {
-    let mut sheet = Sheet::blank();
-    match load_sheet(bytes, &mut sheet) {
-        Ok(()) => (0, 0),
-        Err(f) => (f.number(), f.place()),
-    }
+    told(load_sheet(bytes, &mut Sheet::blank()))
 }
 
 // The neg of a step of signal 3.
@@ -20,19 +18,17 @@ fn full() -> [u8; 580] {
     let mut b = [0; 580];
     b[0] = 64;
     b[1] = 31;
-    for i in 0..31 {
-        b[4 + i] = 1;
+    b[4..35].fill(1);
+    b[35..65].fill(3);
+    b[65..68].copy_from_slice(&[5, 4, 4]);
+    // Stays: an alt's row goes by its number, which also says where it stands.
+    for i in 31..61u8 {
+        let at = 68 + 8 * i as usize;
+        b[at] = if i == 31 { 0 } else { i - 1 };
+        b[at + 1] = i - 30;
     }
-    for i in 31..61 {
-        b[4 + i] = 3;
-        b[68 + 8 * i] = if i == 31 { 0 } else { i as u8 - 1 };
-        b[69 + 8 * i] = i as u8 - 30;
-    }
-    b[65] = 5;
     b[556] = 60;
-    b[66] = 4;
     b[564] = 61;
-    b[67] = 4;
     b[572] = 62;
     b
 }

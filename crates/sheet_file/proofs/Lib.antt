@@ -1,4 +1,4 @@
-pub mod Zeros
 pub mod Fills
+pub mod RowsRead
 pub mod Verdicts
 pub mod Empties

@@ -4,7 +4,7 @@ use Rattle.std.proofs.lemmas.Bool.{lt-ltb, and_from, cond-true, not-false, not_f
 use Rattle.std.proofs.lemmas.Bool.Decides.{nat_tests}
 use Rattle.std.proofs.lemmas.List.FromFn.{get_or-map-range_with_len}
 use Rattle.fault.specs.declared.fault.Fault.{Fault}
-use Rattle.fault.specs.declared.fault.Fault.TheVariants.{SheetShort, SheetHeader, SheetLength, FragmentRow}
+use Rattle.fault.specs.declared.fault.Fault.TheVariants.{SheetLength, FragmentRow}
 use Rattle.fault.specs.Checks.{Check, ◌then◌}
 use Rattle.fault.proofs.Passed.{then_assoc, at_passed, passed_at}
 use Rattle.action.specs.Ranges.{highest_address, highest_kind, highest_argument}
@@ -16,14 +16,8 @@ use Rattle.sheet_file.specs.Codes.{term, comparison, guard, variable, change}
 use Rattle.sheet_file.specs.Rows.{cell, parts, all_zero, row_of, row_fits, step_row_fits, kinds_check, rows_check, step_of, fragment_of, fragment_at, fragments_of}
 use Rattle.sheet_file.specs.Sheets.{kinds_of, rows_of, diagram_of, sheet_verdict}
 
--- the rules of the header and the length
+-- the rule of the length
 module _ (b : List ℕ) where
-  pub short_stops : length b < 4 → Err SheetShort ≡ sheet_verdict b
-  short_stops l = rw (lt-ltb (length b) 4 l)
-
-  pub header_stops : 4 ≤ length b → false ≡ header_fits (get_or b 0 0) (get_or b 1 0) (get_or b 2 0) (get_or b 3 0) → Err SheetHeader ≡ sheet_verdict b
-  header_stops l h = rw (le-ltb (length b) 4 l, ← h)
-
   pub length_stops : 4 ≤ length b → true ≡ header_fits (get_or b 0 0) (get_or b 1 0) (get_or b 2 0) (get_or b 3 0) → (length b ≡ 4 + 9 * get_or b 0 0 → ⊥) → Err SheetLength ≡ sheet_verdict b
   length_stops l h e = rw (le-ltb (length b) 4 l, ← h, ne_eqb (length b) (4 + 9 * get_or b 0 0) e)
 

@@ -18,16 +18,16 @@ fn read_sheet(bytes: &[u8]) -> Result<Sheet, Fault>
     };
     let count = *n as usize;
     let steps = *k as usize;
-    if !header_fits(count, steps, *x, *y) {
+    let start = Variables { x: *x, y: *y };
+    if !header_fits(count, steps, start) {
         return Err(Fault::SheetHeader);
     }
     if rest.len() != 9 * count {
         return Err(Fault::SheetLength);
     }
-    let kinds = &rest[0..count];
+    let (kinds, rows) = rest.split_at(count);
     check_kinds(kinds)?;
-    let fragments = read_rows(kinds, &rest[count..])?;
-    let start = Variables { x: *x, y: *y };
+    let fragments = read_rows(kinds, rows)?;
     judge(Diagram {
         count,
         steps,

@@ -1,10 +1,10 @@
 // The kinds and the rows of the fragments.
-ghost use Rattle.std.specs.Prelude.{◌≡◌, ◌*◌, ◌≤◌, length};
+ghost use Rattle.std.specs.Prelude.{◌≡◌, ◌*◌, ◌≤◌, if◌then◌else◌, length, position, nat_lt, Some, None};
 ghost use Rattle.fault.specs.Checks.{or_fault};
-ghost use Rattle.sheet_file.specs.Rows.{parts as parts_of, all_zero, step_row_fits, row_fits, row_check, fragment_of, fragments_of, kinds_check, rows_check};
+ghost use Rattle.sheet_file.specs.Rows.{step_row_fits, row_fits, row_check, step_of, fragment_of, fragments_of, kinds_check, rows_check};
 
 use crate::codes::{change, guard};
-use action::deed::{HIGHEST_ADDRESS, HIGHEST_ARGUMENT};
+use action::deed::HIGHEST_ADDRESS;
 use action::kind::HIGHEST_KIND;
 use fault::fault::Fault;
 use sheet::diagram::Fragment;
@@ -13,51 +13,25 @@ use sheet::step::Step;
 /// The highest kind of a fragment.
 const HIGHEST_FRAGMENT: u8 = 5;
 
-/// The highest code of a term.
-const HIGHEST_TERM: u8 = 19;
+fn first_unknown(kinds: &[u8]) -> Option<usize>
+    ensures { result ≡ position (λ k. nat_lt 5 k) kinds.now }
+{
+    kinds.iter().position(|kind| *kind > HIGHEST_FRAGMENT)
+}
 
-/// The highest code of a comparison.
-const HIGHEST_COMPARISON: u8 = 6;
-
-/// The highest code of a target.
-const HIGHEST_TARGET: u8 = 2;
-
+// Stays: a kind is the byte of the file, since all are judged before the first row, and a library has no memory to keep more.
 pub(crate) fn check_kinds(kinds: &[u8]) -> Result<(), Fault>
     ensures { result ≡ kinds_check kinds.now }
 {
-    for i in 0..kinds.len() {
-        if kinds[i] > HIGHEST_FRAGMENT {
-            return Err(Fault::FragmentKind(i));
-        }
-    }
-    Ok(())
-}
-
-// How many parts a fragment of a kind names, in the first columns of its row.
-fn parts(kind: u8) -> usize
-    ensures { result ≡ parts_of kind }
-{
-    match kind {
-        2 | 3 => 2,
-        4 | 5 => 1,
-        _ => 0,
+    match first_unknown(kinds) {
+        Some(i) => Err(Fault::FragmentKind(i)),
+        None => Ok(()),
     }
 }
 
-fn zeros(bytes: &[u8]) -> bool
-    ensures { result ≡ all_zero bytes.now }
-{
-    for b in bytes {
-        if *b != 0 {
-            return false;
-        }
-    }
-    true
-}
-
-fn step_fits(row: &[u8]) -> bool
-    requires { length row.now ≡ 8 }
-    ensures { result ≡ step_row_fits row.now }
+// The step of a row whose bytes are in their ranges. Without a comparison it has no guard, without a target no change.
+fn read_step(row: &[u8; 8]) -> Option<Step>
+    ensures { result ≡ (if step_row_fits row.now then Some (step_of row.now) else None) }
 {
     let [
         address,
@@ -68,73 +42,64 @@ fn step_fits(row: &[u8]) -> bool
         target,
         source,
         add,
-    ] = row
-    else {
-        return false;
-    };
-    *address <= HIGHEST_ADDRESS
-        && *signal <= HIGHEST_KIND
-        && *left <= HIGHEST_TERM
-        && *comparison <= HIGHEST_COMPARISON
-        && *right <= HIGHEST_TERM
-        && *target <= HIGHEST_TARGET
-        && *source <= HIGHEST_TERM
-        && *add <= HIGHEST_ARGUMENT
-        && (*comparison != 0 || *left == 0 && *right == 0)
-        && (*target != 0 || *source == 0 && *add == 0)
-}
-
-fn fits(kind: u8, row: &[u8]) -> bool
-    requires { length row.now ≡ 8 }
-    ensures { result ≡ row_fits kind row.now }
-{
-    if kind == 1 {
-        step_fits(row)
-    } else {
-        zeros(&row[parts(kind)..])
+    ] = *row;
+    if address > HIGHEST_ADDRESS || signal > HIGHEST_KIND {
+        return None;
     }
+    let guard = match (left, comparison, right) {
+        (0, 0, 0) => None,
+        _ => Some(guard(left, comparison, right)?),
+    };
+    let change = match (target, source, add) {
+        (0, 0, 0) => None,
+        _ => Some(change(target, source, add)?),
+    };
+    Some(Step {
+        address,
+        signal,
+        guard,
+        change,
+    })
 }
 
-fn decode(kind: u8, row: &[u8]) -> Fragment
-    requires { length row.now ≡ 8 }
-    ensures { result ≡ fragment_of kind row.now }
+// The fragment of a kind and a row whose bytes are in their ranges: other than a step's, they are the parts and then 0.
+// A kind above the highest has been refused, and would be a skip.
+fn read_fragment(kind: u8, row: &[u8; 8]) -> Option<Fragment>
+    ensures { result ≡ (if row_fits kind row.now then Some (fragment_of kind row.now) else None) }
 {
-    match kind {
-        1 => Fragment::Step(Step {
-            address: row[0],
-            signal: row[1],
-            guard: guard(row[2], row[3], row[4]),
-            change: change(row[5], row[6], row[7]),
-        }),
-        2 => Fragment::Seq(row[0] as usize, row[1] as usize),
-        3 => Fragment::Alt(row[0] as usize, row[1] as usize),
-        4 => Fragment::Loop(row[0] as usize),
-        5 => Fragment::Neg(row[0] as usize),
-        _ => Fragment::Skip,
+    match (kind, *row) {
+        (1, _) => Some(Fragment::Step(read_step(row)?)),
+        (2, [first, second, 0, 0, 0, 0, 0, 0]) => {
+            Some(Fragment::Seq(first as usize, second as usize))
+        }
+        (3, [first, second, 0, 0, 0, 0, 0, 0]) => {
+            Some(Fragment::Alt(first as usize, second as usize))
+        }
+        (4, [part, 0, 0, 0, 0, 0, 0, 0]) => Some(Fragment::Loop(part as usize)),
+        (5, [part, 0, 0, 0, 0, 0, 0, 0]) => Some(Fragment::Neg(part as usize)),
+        (0 | 6.., [0, 0, 0, 0, 0, 0, 0, 0]) => Some(Fragment::Skip),
+        _ => None,
     }
 }
 
 // The fragment that a kind and a row say, or refusal 5.
-fn read_row(i: usize, kind: u8, row: &[u8]) -> Result<Fragment, Fault>
-    requires { length row.now ≡ 8 }
+fn read_row(i: usize, kind: u8, row: &[u8; 8]) -> Result<Fragment, Fault>
     ensures { result ≡ or_fault (row_check i kind row.now) (fragment_of kind row.now) }
 {
-    if fits(kind, row) {
-        Ok(decode(kind, row))
-    } else {
-        Err(Fault::FragmentRow(i))
-    }
+    read_fragment(kind, row).ok_or(Fault::FragmentRow(i))
 }
 
 // The fragments, with skips past the last; or refusal 5.
-pub(crate) fn read_rows(kinds: &[u8], rows: &[u8]) -> Result<[Fragment; 64], Fault>
+pub(crate) fn read_rows(kinds: &[u8], bytes: &[u8]) -> Result<[Fragment; 64], Fault>
     requires few { length kinds.now ≤ 64 }
-    requires eight { length rows.now ≡ 8 * length kinds.now }
-    ensures { result ≡ or_fault (rows_check kinds.now rows.now) (fragments_of kinds.now rows.now) }
+    requires eight { length bytes.now ≡ 8 * length kinds.now }
+    ensures { result ≡ or_fault (rows_check kinds.now bytes.now) (fragments_of kinds.now bytes.now) }
 {
+    let (rows, _) = bytes.as_chunks();
     let mut fragments = [Fragment::Skip; 64];
-    for i in 0..kinds.len() {
-        fragments[i] = read_row(i, kinds[i], &rows[8 * i..8 * i + 8])?;
+    for (i, (kind, row)) in kinds.iter().zip(rows).enumerate() {
+        // Stays: written by its number, since no clause says what a slice holds after `iter_mut`.
+        fragments[i] = read_row(i, *kind, row)?;
     }
     Ok(fragments)
 }

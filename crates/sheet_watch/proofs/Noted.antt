@@ -1,6 +1,6 @@
 -- What a watch forbids, before and after a deed.
-use Rattle.std.specs.Prelude.{◌≡◌, ℕ, ◌<◌, Bool, true, false, ◌||◌, T, ◌⊎◌, ◌↔◌, List, [], ◌∷◌, Decides}
-use Rattle.std.proofs.Common.{sym, ◌∙◌, inl, inr}
+use Rattle.std.specs.Prelude.{◌≡◌, ℕ, ◌<◌, Bool, true, false, ◌||◌, T, ◌⊎◌, ◌↔◌, Some, None, Option, List, [], ◌∷◌, Decides, is_none}
+use Rattle.std.proofs.Common.{sym, refl, ◌∙◌, inl, inr}
 use Rattle.action.specs.declared.deed.Deed.{Deed}
 use Rattle.action.specs.Traces.{Sub, none, keep, skip}
 use Rattle.action.proofs.Traces.{sub_none}
@@ -11,10 +11,19 @@ use Rattle.sheet.proofs.Bools.{or_l, or_r, or_out, T_true}
 use Rattle.sheet.proofs.Both.{move}
 use Rattle.followers.specs.Next.{Nexts}
 use Rattle.followers.specs.Accepts.{Fires, Accepts}
-use Rattle.machine.specs.Pairs.{May}
+use Rattle.machine.specs.Pairs.{May, may}
 use Rattle.machine.specs.Going.{Ends, Adds, Left}
+use Rattle.machine.proofs.Places.{may_out}
 use Rattle.machine.proofs.Going.{leads_on, ends_from, moves_from}
 use Rattle.sheet_watch.specs.Watching.{Within}
+
+-- marks are of steps below 64
+pub low : (xs : List ℕ) (p : ℕ) (v : Variables) (m : Bool) → T (has (may xs p v) m) → p < 64
+low xs p v m h = (may_out xs p v m h).0
+
+pub no_marks : {X : Type 0} → (o : Option X) → ((x : X) → o ≡ Some x → ⊥) → is_none o ≡ true
+no_marks None f = refl
+no_marks (Some x) f = absurd (f x refl)
 
 module _ (F : ℕ → Fragment) (follow : ℕ → Nexts) where
   -- the empty list

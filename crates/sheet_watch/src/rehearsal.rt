@@ -27,15 +27,12 @@ pub fn rehearse(watch: &mut SheetWatch, deeds: &[Deed]) -> usize
     ensures pass { (k : ℕ) → k < result → Forbidden watch.old (take (k + 1) deeds.now) → ⊥ }
     ensures barred { result < length deeds.now → Forbidden watch.old (take (result + 1) deeds.now) }
 {
-    if watch.broken {
-        return 0;
-    }
     let chart = watch.chart;
-    let saved = watch.marks;
-    let guard = Rehearsal {
-        marks: &mut watch.marks,
-        saved,
+    let Some(marks) = &mut watch.marks else {
+        return 0;
     };
+    let saved = *marks;
+    let guard = Rehearsal { marks, saved };
     for (i, d) in deeds.iter().enumerate() {
         let old = *guard.marks;
         if chart.advance(&old, *d, guard.marks) {

@@ -1,7 +1,7 @@
 ghost use Rattle.sheet.specs.Forbid.{Forbids};
 ghost use Rattle.watch.specs.Meaning.{Alike};
-ghost use Rattle.sheet_watch.specs.Watching.{Forbidden};
-ghost use Rattle.machine.specs.Pairs.{may};
+ghost use Rattle.std.specs.Prelude.{is_none};
+ghost use Rattle.sheet_watch.specs.Watching.{Forbidden, may_of};
 ghost use Rattle.machine.specs.Charts.{kinds_of, follows_of};
 ghost use Rattle.sheet_watch.specs.Leaving.{leaving_out};
 
@@ -13,11 +13,11 @@ use watch::watch::Watch;
 
 /// Forbids what a sheet forbids.
 /// The marks say for each step and each pair of x and y whether a run may take that step next, unmarked or marked; all runs live side by side.
+/// There are none once a marked run has ended: every list is forbidden from then on.
 #[derive(Drop)]
 pub struct SheetWatch {
     pub(crate) chart: Chart,
-    pub(crate) marks: [u8; 16384],
-    pub(crate) broken: bool,
+    pub(crate) marks: Option<[u8; 16384]>,
 }
 
 impl SheetWatch {
@@ -30,8 +30,7 @@ impl SheetWatch {
         let marks = first_marks(sheet);
         SheetWatch {
             chart,
-            marks,
-            broken: first.marked.end,
+            marks: if first.marked.end { None } else { Some(marks) },
         }
     }
 }
@@ -41,22 +40,25 @@ impl Watch for SheetWatch {
 
     ghost forbids = { Forbidden };
 
-    ghost leaving = { λ w s l sub h. leaving_out (kinds_of w.chart) (follows_of w.chart) w.broken (may w.marks) s l sub h };
+    ghost leaving = { λ w s l sub h. leaving_out (kinds_of w.chart) (follows_of w.chart) (is_none w.marks) (may_of w.marks) s l sub h };
 
     fn broken(&self) -> bool {
-        self.broken
+        self.marks.is_none()
     }
 
     fn bars(&self, a: &Deed) -> bool {
-        if self.broken {
-            return true;
+        match &self.marks {
+            Some(marks) => self.chart.ends(marks, *a),
+            None => true,
         }
-        self.chart.ends(&self.marks, *a)
     }
 
     fn note(&mut self, a: &Deed) {
-        let old = self.marks;
-        let ended = self.chart.advance(&old, *a, &mut self.marks);
-        self.broken = self.broken | ended;
+        if let Some(marks) = &mut self.marks {
+            let old = *marks;
+            if self.chart.advance(&old, *a, marks) {
+                self.marks = None;
+            }
+        }
     }
 }

@@ -20,37 +20,13 @@ use watch::watch::Watch;
 // A query and a submit for each deed of a list.
 const MOST_ASKS: usize = 2 * MOST_DRAWN;
 
-// Before each deed, and after the last: is the watch broken, and does it bar the next?
-fn watch_agrees(sheet: &Sheet, deeds: &[Deed], found: &[Front]) -> bool {
-    let mut watch = SheetWatch::new(sheet);
-    for (k, deed) in deeds.iter().enumerate() {
-        if watch.broken() != forbidden_at(found, k) {
-            return false;
-        }
-        if watch.bars(deed) != forbidden_at(found, k.wrapping_add(1)) {
-            return false;
-        }
-        watch.note(deed);
-    }
-    watch.broken() == forbidden_at(found, deeds.len())
-}
-
-// Is each front part a negative trace?
-fn machine_agrees(sheet: &Sheet, deeds: &[Deed], found: &[Front]) -> bool {
-    for (k, front) in found.iter().enumerate() {
-        if k <= deeds.len() && accepts(sheet, &deeds[0..k]) != front.negative {
-            return false;
-        }
-    }
-    true
-}
-
-// How many deeds come before the first that makes the list forbidden.
-fn rehearsal_agrees(sheet: &Sheet, deeds: &[Deed], found: &[Front]) -> bool {
-    let mut watch = SheetWatch::new(sheet);
-    let before = rehearse(&mut watch, deeds);
-    !forbidden_at(found, before)
-        && (before == deeds.len() || forbidden_at(found, before.wrapping_add(1)))
+/// A sheet, as bytes and loaded; a list of deeds; and what the slow program finds of the list's front parts.
+#[derive(Drop)]
+pub struct Case<'a> {
+    pub rule: &'a [u8],
+    pub sheet: &'a Sheet,
+    pub deeds: &'a [Deed],
+    pub found: &'a [Front],
 }
 
 // Each deed of a run file is asked about and then submitted; none where the file is refused.
@@ -76,105 +52,121 @@ fn replies(sheet: &Sheet, asks: &[Ask<Deed>]) -> [Reply; MOST_ASKS] {
     replies
 }
 
-// The number that the rules ask for: 20 after a bar, 21 where the deed makes the done ones forbidden, else 0.
-fn asked_for(found: &[Front], k: usize) -> u8 {
-    if forbidden_at(found, k) {
-        20
-    } else if forbidden_at(found, k.wrapping_add(1)) {
-        21
-    } else {
-        0
+impl Case<'_> {
+    // Whether the first k deeds are forbidden.
+    fn forbidden(&self, k: usize) -> bool {
+        forbidden_at(self.found, k)
     }
-}
 
-// Whether a reply is the answer that the rules ask for to the deed k.
-fn reply_agrees(reply: &Reply, found: &[Front], k: usize) -> bool {
-    match reply {
-        Reply::Answered(answer) => answer.number() == asked_for(found, k),
-        Reply::Counted(_) => false,
+    // Before each deed, and after the last: is the watch broken, and does it bar the next?
+    fn watch_agrees(&self) -> bool {
+        let mut watch = SheetWatch::new(self.sheet);
+        for (k, deed) in self.deeds.iter().enumerate() {
+            if watch.broken() != self.forbidden(k) || watch.bars(deed) != self.forbidden(k + 1) {
+                return false;
+            }
+            watch.note(deed);
+        }
+        watch.broken() == self.forbidden(self.deeds.len())
     }
-}
 
-// Two replies for each deed.
-fn replies_agree(replies: &[Reply], deeds: usize, found: &[Front]) -> bool {
-    for (k, reply) in replies.iter().take(deeds.saturating_mul(2)).enumerate() {
-        if !reply_agrees(reply, found, k / 2) {
-            return false;
+    // Is each front part a negative trace?
+    fn machine_agrees(&self) -> bool {
+        self.found.iter().enumerate().all(|(k, front)| {
+            k > self.deeds.len() || accepts(self.sheet, &self.deeds[..k]) == front.negative
+        })
+    }
+
+    // How many deeds come before the first that makes the list forbidden.
+    fn rehearsal_agrees(&self) -> bool {
+        let mut watch = SheetWatch::new(self.sheet);
+        let before = rehearse(&mut watch, self.deeds);
+        !self.forbidden(before) && (before == self.deeds.len() || self.forbidden(before + 1))
+    }
+
+    // The answer that the rules ask for to the deed k, where those before it were submitted.
+    fn asked_for(&self, k: usize) -> Answer {
+        if self.forbidden(k) {
+            Answer::Stopped
+        } else if self.forbidden(k.saturating_add(1)) {
+            Answer::Barred
+        } else {
+            Answer::Done
         }
     }
-    true
-}
 
-// The list as a run file, each deed asked about and submitted at a gate.
-fn gate_agrees(
-    heap: Global,
-    sheet: &Sheet,
-    deeds: &[Deed],
-    found: &[Front],
-) -> Result<bool, AllocError> {
-    let run = encode_run(heap, deeds)?;
-    let Some(asks) = asks(heap, run.as_slice())? else {
-        return Ok(false);
-    };
-    let replies = replies(sheet, asks.as_slice());
-    Ok(replies_agree(&replies, deeds.len(), found))
-}
+    // Whether a reply is the answer that the rules ask for to the deed k.
+    fn reply_agrees(&self, reply: &Reply, k: usize) -> bool {
+        match reply {
+            Reply::Answered(answer) => *answer == self.asked_for(k),
+            Reply::Counted(_) => false,
+        }
+    }
 
-// The list as a run file, answered under the sheet's bytes as gaterun does.
-fn answers_agree(
-    heap: Global,
-    rule: &[u8],
-    deeds: &[Deed],
-    found: &[Front],
-) -> Result<bool, AllocError> {
-    let run = encode_run(heap, deeds)?;
-    let mut replies = [Reply::Answered(Answer::Declined); MOST_DEEDS];
-    let Ok(account) = answer_files(rule, run.as_slice(), &mut replies) else {
-        return Ok(false);
-    };
-    for (k, reply) in replies.iter().take(account.many).enumerate() {
-        if !reply_agrees(reply, found, k) {
+    // The list as a run file, each deed asked about and submitted at a gate: two replies for each deed.
+    fn gate_agrees(&self, heap: Global) -> Result<bool, AllocError> {
+        let run = encode_run(heap, self.deeds)?;
+        let Some(asks) = asks(heap, run.as_slice())? else {
             return Ok(false);
+        };
+        let replies = replies(self.sheet, asks.as_slice());
+        Ok(
+            replies
+                .iter()
+                .take(self.deeds.len().saturating_mul(2))
+                .enumerate()
+                .all(|(k, reply)| self.reply_agrees(reply, k / 2)),
+        )
+    }
+
+    // The list as a run file, answered under the sheet's bytes as gaterun does.
+    fn answers_agree(&self, heap: Global) -> Result<bool, AllocError> {
+        let run = encode_run(heap, self.deeds)?;
+        let mut replies = [Reply::Answered(Answer::Declined); MOST_DEEDS];
+        let Ok(account) = answer_files(self.rule, run.as_slice(), &mut replies) else {
+            return Ok(false);
+        };
+        let told = replies
+            .iter()
+            .take(account.many)
+            .enumerate()
+            .all(|(k, reply)| self.reply_agrees(reply, k));
+        Ok(
+            told && account.many == self.deeds.len()
+                && account.gate.stopped() == self.forbidden(self.deeds.len()),
+        )
+    }
+
+    /// What the fast ones answer, deed by deed.
+    pub fn print_fast(&self, rt: &HostRuntime) -> io::Result<()> {
+        let mut watch = SheetWatch::new(self.sheet);
+        let mut gate = Gate::open(SheetWatch::new(self.sheet), Board::new());
+        for deed in self.deeds {
+            let bars = watch.bars(deed);
+            let answer = gate.submit(deed).number();
+            watch.note(deed);
+            let broken = watch.broken();
+            println!(rt; "watch bars: {bars}, then broken: {broken}; gate: {answer}")?;
         }
+        let accepted = accepts(self.sheet, self.deeds);
+        let before = rehearse(&mut SheetWatch::new(self.sheet), self.deeds);
+        println!(rt; "machine accepts: {accepted}, rehearsal: {before}")
     }
-    Ok(account.many == deeds.len() && account.gate.stopped() == forbidden_at(found, deeds.len()))
-}
 
-/// What the fast ones answer, deed by deed.
-pub fn print_fast(rt: &HostRuntime, sheet: &Sheet, deeds: &[Deed]) -> io::Result<()> {
-    let mut watch = SheetWatch::new(sheet);
-    let mut gate = Gate::open(SheetWatch::new(sheet), Board::new());
-    for deed in deeds {
-        let bars = watch.bars(deed);
-        let answer = gate.submit(deed).number();
-        watch.note(deed);
-        let broken = watch.broken();
-        println!(rt; "watch bars: {bars}, then broken: {broken}; gate: {answer}")?;
+    /// Which of the fast ones answers otherwise, if one does.
+    pub fn difference(&self, heap: Global) -> Result<Option<&'static str>, AllocError> {
+        Ok(if !self.watch_agrees() {
+            Some("watch")
+        } else if !self.machine_agrees() {
+            Some("machine")
+        } else if !self.rehearsal_agrees() {
+            Some("rehearsal")
+        } else if !self.gate_agrees(heap)? {
+            Some("gate")
+        } else if !self.answers_agree(heap)? {
+            Some("answers")
+        } else {
+            None
+        })
     }
-    let accepted = accepts(sheet, deeds);
-    let before = rehearse(&mut SheetWatch::new(sheet), deeds);
-    println!(rt; "machine accepts: {accepted}, rehearsal: {before}")
-}
-
-/// Which of the fast ones answers otherwise, if one does.
-pub fn difference(
-    heap: Global,
-    rule: &[u8],
-    sheet: &Sheet,
-    deeds: &[Deed],
-    found: &[Front],
-) -> Result<Option<&'static str>, AllocError> {
-    Ok(if !watch_agrees(sheet, deeds, found) {
-        Some("watch")
-    } else if !machine_agrees(sheet, deeds, found) {
-        Some("machine")
-    } else if !rehearsal_agrees(sheet, deeds, found) {
-        Some("rehearsal")
-    } else if !gate_agrees(heap, sheet, deeds, found)? {
-        Some("gate")
-    } else if !answers_agree(heap, rule, deeds, found)? {
-        Some("answers")
-    } else {
-        None
-    })
 }

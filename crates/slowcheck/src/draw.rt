@@ -12,11 +12,7 @@ pub const MOST_DRAWN: usize = 6;
 
 // From 0 to 15, most often small.
 fn number(random: &mut Random) -> u8 {
-    if random.chance(15) {
-        random.byte_below(16)
-    } else {
-        random.byte_below(4)
-    }
+    random.byte_below_either(15, 16, 4)
 }
 
 fn term(random: &mut Random) -> Term {
@@ -68,19 +64,11 @@ fn change(random: &mut Random) -> Option<Change> {
 }
 
 fn partner(random: &mut Random) -> u8 {
-    if random.chance(85) {
-        0
-    } else {
-        random.byte_below(8)
-    }
+    random.zero_or_below(85, 8)
 }
 
 fn signal(random: &mut Random) -> u8 {
-    if random.chance(90) {
-        random.byte_below(3)
-    } else {
-        random.byte_below(32)
-    }
+    random.byte_below_either(90, 3, 32)
 }
 
 fn step(random: &mut Random) -> Step {
@@ -100,54 +88,60 @@ fn leaf(random: &mut Random) -> Fragment {
     }
 }
 
-// Takes out any of the fragments that none names yet.
-fn take_open(random: &mut Random, open: &mut Vec<usize>) -> usize {
-    let n = open.len();
-    if n == 0 {
-        return 0;
-    }
-    let at = random.below(n);
-    open.remove(at)
+// A diagram that is being drawn.
+#[derive(Drop)]
+struct Drawing<'a> {
+    random: &'a mut Random,
+    // The fragments that none names yet.
+    open: Vec<usize>,
 }
 
-fn over_one(random: &mut Random, open: &mut Vec<usize>) -> Fragment {
-    let body = take_open(random, open);
-    if random.chance(55) {
-        Fragment::Neg(body)
-    } else {
-        Fragment::Loop(body)
+impl Drawing<'_> {
+    // Takes out any of the open ones.
+    fn take(&mut self) -> usize {
+        let n = self.open.len();
+        if n == 0 {
+            return 0;
+        }
+        let at = self.random.below(n);
+        self.open.remove(at)
     }
-}
 
-fn over_two(random: &mut Random, open: &mut Vec<usize>) -> Fragment {
-    let left = take_open(random, open);
-    let right = take_open(random, open);
-    if random.chance(60) {
-        Fragment::Seq(left, right)
-    } else {
-        Fragment::Alt(left, right)
+    fn over_one(&mut self) -> Fragment {
+        let body = self.take();
+        if self.random.chance(55) {
+            Fragment::Neg(body)
+        } else {
+            Fragment::Loop(body)
+        }
     }
-}
 
-// The next fragment of a diagram, where this and so many more are to come; in the end one is open.
-fn fragment(random: &mut Random, open: &mut Vec<usize>, more: usize) -> Fragment {
-    let choice = random.below(10);
-    let n = open.len();
-    if n >= 2 && (n - 1 > more || choice < 4) {
-        over_two(random, open)
-    } else if n >= 1 && (n > more || choice < 7) {
-        over_one(random, open)
-    } else {
-        leaf(random)
+    fn over_two(&mut self) -> Fragment {
+        let left = self.take();
+        let right = self.take();
+        if self.random.chance(60) {
+            Fragment::Seq(left, right)
+        } else {
+            Fragment::Alt(left, right)
+        }
+    }
+
+    // The next fragment, where this and so many more are to come; in the end one is open.
+    fn fragment(&mut self, more: usize) -> Fragment {
+        let choice = self.random.below(10);
+        let n = self.open.len();
+        if n >= 2 && (n - 1 > more || choice < 4) {
+            self.over_two()
+        } else if n >= 1 && (n > more || choice < 7) {
+            self.over_one()
+        } else {
+            leaf(self.random)
+        }
     }
 }
 
 fn start(random: &mut Random) -> u8 {
-    if random.chance(70) {
-        0
-    } else {
-        random.byte_below(16)
-    }
+    random.zero_or_below(70, 16)
 }
 
 /// A diagram of any kind and shape, of at most so many fragments: parts stand earlier, each fragment but the last is named once.
@@ -156,30 +150,30 @@ pub fn diagram(heap: Global, random: &mut Random, most: usize) -> Result<Diagram
 {
     let count = 1 + random.below(most);
     let mut fragments = [Fragment::Skip; 64];
-    let mut open = Vec::new(heap);
-    for i in 0..count {
-        fragments[i] = fragment(random, &mut open, count - i - 1);
-        open.push(i)?;
+    let mut drawing = Drawing {
+        random,
+        open: Vec::new(heap),
+    };
+    for (i, (place, more)) in fragments.iter_mut().zip((0..count).rev()).enumerate() {
+        *place = drawing.fragment(more);
+        drawing.open.push(i)?;
     }
     Ok(Diagram {
         count,
         steps: steps(&fragments),
         start: Variables {
-            x: start(random),
-            y: start(random),
+            x: start(drawing.random),
+            y: start(drawing.random),
         },
         fragments,
     })
 }
 
 fn steps(fragments: &[Fragment; 64]) -> usize {
-    let mut n = 0usize;
-    for f in fragments {
-        if let Fragment::Step(_) = f {
-            n = n.saturating_add(1);
-        }
-    }
-    n
+    fragments
+        .iter()
+        .filter(|f| matches!(f, Fragment::Step(_)))
+        .count()
 }
 
 // A deed that some step of the diagram may suit.
@@ -195,21 +189,28 @@ fn deed(random: &mut Random, d: &Diagram) -> Deed {
     Deed::reading(partner(random), signal(random), first, second)
 }
 
-/// A list of at most so many deeds.
-pub fn deeds(
-    heap: Global,
-    random: &mut Random,
-    d: &Diagram,
-    most: usize,
-) -> Result<Vec<Deed>, AllocError>
-    requires { most ≤ 6 }
-{
-    let count = random.below(most + 1);
-    let mut list = Vec::new(heap);
-    for _ in 0..count {
-        list.push(deed(random, d))?;
+/// Lists of at most so many deeds.
+#[derive(Clone, Copy)]
+pub struct Lists {
+    pub most: usize,
+    ghost few: { most ≤ 6 },
+}
+
+impl Lists {
+    /// One of the lists, for a diagram.
+    pub fn draw(
+        &self,
+        heap: Global,
+        random: &mut Random,
+        d: &Diagram,
+    ) -> Result<Vec<Deed>, AllocError> {
+        let count = random.below(self.most + 1);
+        let mut list = Vec::new(heap);
+        for _ in 0..count {
+            list.push(deed(random, d))?;
+        }
+        Ok(list)
     }
-    Ok(list)
 }
 
 // Another byte than this, most often a near one.

@@ -8,6 +8,7 @@ fn low_byte(n: usize) -> u8 {
     (n % 256) as u8
 }
 
+// Stays: functions, since a type of another crate gets no `From` for numbers here.
 fn kind(f: &Fragment) -> u8 {
     match f {
         Fragment::Skip => 0,

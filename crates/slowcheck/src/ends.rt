@@ -24,19 +24,17 @@ impl Pairs {
 
     /// Adds the pairs of another set.
     pub fn join(&mut self, other: &Pairs) {
-        for x in 0..16usize {
-            self.rows[x] |= other.rows[x];
+        for (row, more) in self.rows.iter_mut().zip(&other.rows) {
+            *row |= *more;
         }
     }
 
     /// Whether another set has all of these.
     pub fn within(&self, other: &Pairs) -> bool {
-        for x in 0..16usize {
-            if self.rows[x] & !other.rows[x] != 0 {
-                return false;
-            }
-        }
-        true
+        self.rows
+            .iter()
+            .zip(&other.rows)
+            .all(|(row, all)| *row & !*all == 0)
     }
 }
 

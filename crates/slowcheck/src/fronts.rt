@@ -7,6 +7,7 @@ use std::alloc::{AllocError, Global};
 /// Of the first so many deeds.
 #[derive(Clone, Copy, Debug)]
 pub struct Front {
+    // Stays: two findings, of which neither says whether the other is there.
     pub forbidden: bool,
     pub negative: bool,
 }
@@ -14,8 +15,9 @@ pub struct Front {
 /// Of the first 0, 1, .. deeds of a list, the whole list last.
 pub fn fronts(heap: Global, d: &Diagram, deeds: &[Deed]) -> Result<Vec<Front>, AllocError> {
     let mut found = Vec::new(heap);
+    // Stays: no method of a slice gives its front parts, so their lengths are counted: `&deeds[..k]`.
     for k in 0..=deeds.len() {
-        let front = &deeds[0..k];
+        let front = &deeds[..k];
         found.push(Front {
             forbidden: forbidden(heap, d, front)?,
             negative: negative(d, front),
@@ -26,8 +28,5 @@ pub fn fronts(heap: Global, d: &Diagram, deeds: &[Deed]) -> Result<Vec<Front>, A
 
 /// Whether the first k deeds are forbidden.
 pub fn forbidden_at(found: &[Front], k: usize) -> bool {
-    match found.get(k) {
-        Some(front) => front.forbidden,
-        None => false,
-    }
+    found.get(k).is_some_and(|front| front.forbidden)
 }

@@ -8,6 +8,7 @@ mod edges;
 mod encode;
 mod ends;
 mod fronts;
+mod numbers;
 mod random;
 mod runs;
 mod slow;
@@ -16,17 +17,18 @@ mod verdict;
 
 ghost use Rattle.std.specs.Prelude.{◌≤◌};
 
-use crate::beside::{difference, print_fast};
-use crate::draw::{damage, deeds, diagram};
-use crate::edges::{arguments, expect, full_board, no_places, tall};
+use crate::beside::Case;
+use crate::draw::{Lists, damage, diagram};
+use crate::edges::{Tall, arguments, expect, full_board, no_places};
 use crate::encode::encode;
-use crate::fronts::{Front, fronts};
+use crate::fronts::fronts;
+use crate::numbers::numbers;
 use crate::random::Random;
 use crate::runs::{RunTally, run_verdict};
 use crate::tally::Tally;
 use crate::verdict::{decoded, verdict};
-use action::deed::Deed;
 use anyhow::anyhow;
+use fault::fault::Fault;
 use sheet::diagram::Diagram;
 use sheet::sheet::Sheet;
 use sheet_file::load::load_sheet;
@@ -35,14 +37,6 @@ use std::io;
 // How many lists for each sheet that is accepted.
 const LISTS: usize = 6;
 
-// The number and place of the refusal; 0 and 0 where the sheet is accepted.
-fn load(bytes: &[u8], sheet: &mut Sheet) -> (u8, usize) {
-    match load_sheet(bytes, sheet) {
-        Ok(()) => (0, 0),
-        Err(fault) => (fault.number(), fault.place()),
-    }
-}
-
 fn print_hex(rt: &HostRuntime, bytes: &[u8]) -> io::Result<()> {
     for b in bytes {
         print!(rt; "{b:02x}")?;
@@ -50,158 +44,188 @@ fn print_hex(rt: &HostRuntime, bytes: &[u8]) -> io::Result<()> {
     println!(rt; "")
 }
 
-fn fail(rt: &HostRuntime, what: &str, bytes: &[u8]) -> anyhow::Result<()> {
-    println!(rt; "difference: {what}")?;
-    print_hex(rt, bytes)?;
-    Err(anyhow!("a difference"))
+// Prints the number and place of a refusal; 0 and 0 where there is none.
+fn print_verdict(rt: &HostRuntime, whose: &str, verdict: Result<(), Fault>) -> io::Result<()> {
+    match verdict {
+        Ok(()) => println!(rt; "{whose}: 0 at 0"),
+        Err(fault) => println!(rt; "{whose}: {fault}"),
+    }
 }
 
-// Prints a difference on a file, its number and place, and those that the rules ask for; and fails.
-fn tell_verdict(
-    rt: &HostRuntime,
-    what: &str,
-    bytes: &[u8],
-    found: (u8, usize),
-    asked: (u8, usize),
-) -> anyhow::Result<()> {
-    let (number, place) = found;
-    println!(rt; "found: {number} at {place}")?;
-    let (number, place) = asked;
-    println!(rt; "asked for: {number} at {place}")?;
-    fail(rt, what, bytes)
+// What answers otherwise than the rules ask, and the file on which it does.
+#[derive(Clone, Copy)]
+struct Difference<'a> {
+    what: &'a str,
+    file: &'a [u8],
+}
+
+impl Difference<'_> {
+    // Prints it, and fails.
+    fn tell(self, rt: &HostRuntime) -> anyhow::Result<()> {
+        println!(rt; "difference: {}", self.what)?;
+        print_hex(rt, self.file)?;
+        Err(anyhow!("a difference"))
+    }
+
+    // Prints what was found of the file, what the rules ask for, and the difference; and fails.
+    fn tell_verdict(
+        self,
+        rt: &HostRuntime,
+        found: Result<(), Fault>,
+        asked: Result<(), Fault>,
+    ) -> anyhow::Result<()> {
+        print_verdict(rt, "found", found)?;
+        print_verdict(rt, "asked for", asked)?;
+        self.tell(rt)
+    }
 }
 
 // Prints a difference on a list, what all answer, and what was found of its front parts; and fails.
-fn tell_list(
-    rt: &HostRuntime,
-    what: &str,
-    bytes: &[u8],
-    sheet: &Sheet,
-    list: &[Deed],
-    found: &[Front],
-) -> anyhow::Result<()> {
-    println!(rt; "{list:?}")?;
-    println!(rt; "{found:?}")?;
-    print_fast(rt, sheet, list)?;
-    fail(rt, what, bytes)
+fn tell_list(rt: &HostRuntime, what: &str, case: &Case) -> anyhow::Result<()> {
+    println!(rt; "{:?}", case.deeds)?;
+    println!(rt; "{:?}", case.found)?;
+    case.print_fast(rt)?;
+    let file = case.rule;
+    Difference { what, file }.tell(rt)
 }
 
-// Some lists of at most so many deeds, under one sheet.
-fn try_lists(
-    rt: &HostRuntime,
-    random: &mut Random,
-    tally: &mut Tally,
-    bytes: &[u8],
-    d: &Diagram,
-    sheet: &Sheet,
-    most: usize,
-) -> anyhow::Result<()>
-    requires { most ≤ 6 }
-{
-    for _ in 0..LISTS {
-        let list = deeds(rt.alloc(), random, d, most)?;
-        let found = fronts(rt.alloc(), d, list.as_slice())?;
-        if let Some(what) = difference(
-            rt.alloc(),
-            bytes,
-            sheet,
-            list.as_slice(),
-            found.as_slice(),
-        )? {
-            return tell_list(rt, what, bytes, sheet, list.as_slice(), found.as_slice());
+// Sheets that are tried, each with some lists, and what they came to.
+#[derive(Drop)]
+struct Trials<'a> {
+    rt: &'a HostRuntime,
+    random: Random,
+    lists: Lists,
+    tally: Tally,
+}
+
+impl Trials<'_> {
+    // Some lists under one sheet.
+    fn lists(&mut self, rule: &[u8], d: &Diagram, sheet: &Sheet) -> anyhow::Result<()> {
+        let heap = self.rt.alloc();
+        for _ in 0..LISTS {
+            let list = self.lists.draw(heap, &mut self.random, d)?;
+            let found = fronts(heap, d, list.as_slice())?;
+            let case = Case {
+                rule,
+                sheet,
+                deeds: list.as_slice(),
+                found: found.as_slice(),
+            };
+            if let Some(what) = case.difference(heap)? {
+                return tell_list(self.rt, what, &case);
+            }
+            self.tally.list(found.as_slice());
         }
-        tally.list(found.as_slice());
+        Ok(())
     }
-    Ok(())
+
+    // One sheet, of which the diagram is known: is it loaded or refused alike, and do all agree on some lists?
+    fn sheet(&mut self, bytes: &[u8], d: &Diagram) -> anyhow::Result<()> {
+        let mut sheet = Sheet::blank();
+        let found = load_sheet(bytes, &mut sheet);
+        let asked = verdict(bytes);
+        if found != asked {
+            let difference = Difference {
+                what: "loader of sheets",
+                file: bytes,
+            };
+            return difference.tell_verdict(self.rt, found, asked);
+        }
+        self.tally.sheet(found);
+        match found {
+            Ok(()) => self.lists(bytes, d, &sheet),
+            Err(_) => Ok(()),
+        }
+    }
+
+    // One tall sheet, of which the verdict is known.
+    fn tall(&mut self, tall: Tall, asked: Result<(), Fault>) -> anyhow::Result<()> {
+        let bytes = tall.bytes(self.rt.alloc())?;
+        expect(verdict(bytes.as_slice()) == asked, "a tall sheet")?;
+        let d = decoded(bytes.as_slice());
+        self.random = Random::new(3);
+        self.sheet(bytes.as_slice(), &d)
+    }
 }
 
-// One sheet, of which the diagram is known: is it loaded or refused alike, and do all agree on some lists?
-fn try_sheet(
-    rt: &HostRuntime,
-    random: &mut Random,
-    tally: &mut Tally,
-    bytes: &[u8],
-    d: &Diagram,
-    most: usize,
-) -> anyhow::Result<()>
-    requires { most ≤ 6 }
-{
-    let mut sheet = Sheet::blank();
-    let (number, place) = load(bytes, &mut sheet);
-    let asked = verdict(bytes);
-    if (number, place) != asked {
-        return tell_verdict(rt, "loader of sheets", bytes, (number, place), asked);
-    }
-    tally.sheet(number);
-    if number != 0 {
-        return Ok(());
-    }
-    try_lists(rt, random, tally, bytes, d, &sheet, most)
-}
-
-// So many sheets as they are drawn, of at most so many fragments, and lists of at most so many deeds.
+// So many sheets as they are drawn, of at most so many fragments.
 fn drawn_sheets(
     rt: &HostRuntime,
     sheets: usize,
     fragments: usize,
-    most: usize,
+    lists: Lists,
 ) -> anyhow::Result<()>
-    requires sizes { (1 ≤ fragments) × (fragments ≤ 64) }
-    requires few { most ≤ 6 }
+    requires { (1 ≤ fragments) × (fragments ≤ 64) }
 {
-    let mut random = Random::new(1);
-    let mut tally = Tally::new();
+    let mut trials = Trials {
+        rt,
+        random: Random::new(1),
+        lists,
+        tally: Tally::new(),
+    };
     for _ in 0..sheets {
-        let d = diagram(rt.alloc(), &mut random, fragments)?;
+        let d = diagram(rt.alloc(), &mut trials.random, fragments)?;
         let bytes = encode(rt.alloc(), &d)?;
-        try_sheet(rt, &mut random, &mut tally, bytes.as_slice(), &d, most)?;
+        trials.sheet(bytes.as_slice(), &d)?;
     }
     println!(rt;
-        "sheets of at most {fragments} fragments, lists of at most {most} deeds: {sheets}"
+        "sheets of at most {fragments} fragments, lists of at most {} deeds: {sheets}",
+        lists.most
     )?;
-    Ok(tally.print(rt)?)
+    Ok(trials.tally.print(rt)?)
 }
 
 // So many sheets, damaged.
 fn damaged_sheets(rt: &HostRuntime, sheets: usize) -> anyhow::Result<()> {
-    let mut random = Random::new(2);
-    let mut tally = Tally::new();
+    let mut trials = Trials {
+        rt,
+        random: Random::new(2),
+        lists: Lists { most: 6 },
+        tally: Tally::new(),
+    };
     for _ in 0..sheets {
-        let drawn = diagram(rt.alloc(), &mut random, 9)?;
+        let drawn = diagram(rt.alloc(), &mut trials.random, 9)?;
         let mut bytes = encode(rt.alloc(), &drawn)?;
-        damage(&mut random, &mut bytes)?;
+        damage(&mut trials.random, &mut bytes)?;
         let d = decoded(bytes.as_slice());
-        try_sheet(rt, &mut random, &mut tally, bytes.as_slice(), &d, 6)?;
+        trials.sheet(bytes.as_slice(), &d)?;
     }
     println!(rt; "damaged sheets: {sheets}")?;
-    Ok(tally.print(rt)?)
-}
-
-// One tall sheet, of which the number is known.
-fn try_tall(
-    rt: &HostRuntime,
-    tally: &mut Tally,
-    steps: u8,
-    count: u8,
-    number: u8,
-) -> anyhow::Result<()>
-    requires { (1 ≤ steps) × (steps ≤ 32) }
-{
-    let bytes = tall(rt.alloc(), steps, count)?;
-    expect(verdict(bytes.as_slice()) == (number, 0), "a tall sheet")?;
-    let d = decoded(bytes.as_slice());
-    let mut random = Random::new(3);
-    try_sheet(rt, &mut random, tally, bytes.as_slice(), &d, 6)
+    Ok(trials.tally.print(rt)?)
 }
 
 // 64 fragments and 65, 31 steps and 32.
 fn tall_sheets(rt: &HostRuntime) -> anyhow::Result<()> {
-    let mut tally = Tally::new();
-    try_tall(rt, &mut tally, 31, 64, 0)?;
-    try_tall(rt, &mut tally, 31, 65, 2)?;
-    try_tall(rt, &mut tally, 32, 64, 2)?;
+    let mut trials = Trials {
+        rt,
+        random: Random::new(3),
+        lists: Lists { most: 6 },
+        tally: Tally::new(),
+    };
+    let refused = Err(Fault::SheetHeader);
+    trials.tall(
+        Tall {
+            steps: 31,
+            count: 64,
+        },
+        Ok(()),
+    )?;
+    trials.tall(
+        Tall {
+            steps: 31,
+            count: 65,
+        },
+        refused,
+    )?;
+    trials.tall(
+        Tall {
+            steps: 32,
+            count: 64,
+        },
+        refused,
+    )?;
     println!(rt; "tall sheets: 3")?;
-    Ok(tally.print(rt)?)
+    Ok(trials.tally.print(rt)?)
 }
 
 // So many run files: are they loaded or refused alike, and is the list that is lent filled as it has to be?
@@ -213,20 +237,25 @@ fn drawn_runs(rt: &HostRuntime, files: usize) -> anyhow::Result<()> {
         let (found, filled) = runs::load(bytes.as_slice());
         let asked = run_verdict(bytes.as_slice());
         if found != asked || !filled {
-            return tell_verdict(rt, "loader of runs", bytes.as_slice(), found, asked);
+            let difference = Difference {
+                what: "loader of runs",
+                file: bytes.as_slice(),
+            };
+            return difference.tell_verdict(rt, found, asked);
         }
-        tally.run(found.0);
+        tally.run(found);
     }
     eprintln!(rt; "run files: {files}")?;
     Ok(tally.print(rt)?)
 }
 
 fn run(rt: &HostRuntime) -> anyhow::Result<()> {
-    drawn_sheets(rt, 12000, 9, 6)?;
-    drawn_sheets(rt, 500, 64, 4)?;
+    drawn_sheets(rt, 12000, 9, Lists { most: 6 })?;
+    drawn_sheets(rt, 500, 64, Lists { most: 4 })?;
     damaged_sheets(rt, 12000)?;
     tall_sheets(rt)?;
     drawn_runs(rt, 4000)?;
+    numbers()?;
     arguments()?;
     println!(rt; "arguments 15 and 16: held")?;
     no_places()?;

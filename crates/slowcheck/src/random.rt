@@ -1,6 +1,7 @@
 //! Numbers that look random, the same in every run.
-ghost use Rattle.std.specs.Prelude.{◌<◌};
+ghost use Rattle.std.specs.Prelude.{◌<◌, ◌⊎◌};
 
+// Stays: a generator of its own, since what is drawn, and so what is printed, goes by these very numbers.
 #[derive(Drop)]
 pub struct Random {
     state: u64,
@@ -43,5 +44,29 @@ impl Random {
     /// True so many times in a hundred.
     pub fn chance(&mut self, percent: usize) -> bool {
         self.below(100) < percent
+    }
+
+    /// A byte below `end` so many times in a hundred, and else one below `other`.
+    pub fn byte_below_either(&mut self, percent: usize, end: u8, other: u8) -> u8
+        requires { (0 < end) × (0 < other) }
+        ensures { (result < end) ⊎ (result < other) }
+    {
+        if self.chance(percent) {
+            self.byte_below(end)
+        } else {
+            self.byte_below(other)
+        }
+    }
+
+    /// 0 so many times in a hundred, and else a byte below `end`.
+    pub fn zero_or_below(&mut self, percent: usize, end: u8) -> u8
+        requires { 0 < end }
+        ensures { result < end }
+    {
+        if self.chance(percent) {
+            0
+        } else {
+            self.byte_below(end)
+        }
     }
 }

@@ -4,6 +4,7 @@ use crate::random::Random;
 use crate::tally::Count;
 use crate::verdict::byte;
 use action::deed::Deed;
+use fault::fault::Fault;
 use run_file::{MOST_DEEDS, load_run};
 use std::alloc::{AllocError, Global};
 use std::io;
@@ -26,22 +27,19 @@ impl RunTally {
         }
     }
 
-    /// A run that was refused with this number, or accepted with 0.
-    pub(crate) fn run(&mut self, number: u8) {
-        match number {
-            0 => self.accepted.add(),
-            12 => self.byte.add(),
-            _ => self.shape.add(),
+    /// A run that was accepted or refused.
+    pub(crate) fn run(&mut self, verdict: Result<(), Fault>) {
+        match verdict {
+            Ok(()) => self.accepted.add(),
+            Err(Fault::ActionBytes(_)) => self.byte.add(),
+            Err(_) => self.shape.add(),
         }
     }
 
     pub(crate) fn print(&self, rt: &HostRuntime) -> io::Result<()> {
-        let accepted = self.accepted.value();
-        let byte = self.byte.value();
-        let shape = self.shape.value();
-        eprintln!(rt; "  accepted: {accepted}")?;
-        eprintln!(rt; "  refused 12: {byte}")?;
-        eprintln!(rt; "  refused 14: {shape}")
+        eprintln!(rt; "  accepted: {}", self.accepted)?;
+        eprintln!(rt; "  refused 12: {}", self.byte)?;
+        eprintln!(rt; "  refused 14: {}", self.shape)
     }
 }
 
@@ -73,18 +71,21 @@ fn count(bytes: &[u8]) -> usize {
     byte(bytes, 0) as usize + 256 * byte(bytes, 1) as usize
 }
 
-/// The number and place that the rules ask for; 0 and 0 where the run is accepted.
-pub(crate) fn run_verdict(bytes: &[u8]) -> (u8, usize) {
+// Whether the two bytes, an address and a signal, are out of their ranges.
+fn out_of_range(bytes: &[u8]) -> bool {
+    byte(bytes, 0) > 7 || byte(bytes, 1) > 31
+}
+
+/// What the rules ask for: the run is accepted, or refused for this reason.
+pub(crate) fn run_verdict(bytes: &[u8]) -> Result<(), Fault> {
     let n = count(bytes);
     if bytes.len() < 2 || n > 8000 || bytes.len() != 2 + 3 * n {
-        return (14, 0);
+        return Err(Fault::RunShape);
     }
-    for i in 0..n {
-        if byte(bytes, 2 + 2 * i) > 7 || byte(bytes, 3 + 2 * i) > 31 {
-            return (12, i);
-        }
+    match bytes[2..2 + 2 * n].chunks_exact(2).position(out_of_range) {
+        Some(i) => Err(Fault::ActionBytes(i)),
+        None => Ok(()),
     }
-    (0, 0)
 }
 
 fn deed_agrees(bytes: &[u8], n: usize, i: usize, deed: &Deed) -> bool {
@@ -96,22 +97,19 @@ fn deed_agrees(bytes: &[u8], n: usize, i: usize, deed: &Deed) -> bool {
         && deed.second() == arguments % 16
 }
 
-/// The loader's number and place; and whether the lent list holds the deeds and after them what it held.
-pub(crate) fn load(bytes: &[u8]) -> ((u8, usize), bool) {
+/// Whether the loader accepts or refuses the run; and whether the lent list holds the deeds and after them what it held.
+pub(crate) fn load(bytes: &[u8]) -> (Result<(), Fault>, bool) {
     let held = Deed::reading(7, 31, 15, 15);
     let mut deeds = [held; MOST_DEEDS];
-    let (verdict, n) = match load_run(bytes, &mut deeds) {
-        Ok(n) => ((0, 0), n),
-        Err(fault) => ((fault.number(), fault.place()), 0),
-    };
-    let mut filled = n == 0 || n == count(bytes);
-    for (i, deed) in deeds.iter().enumerate() {
-        filled = filled
-            && if i < n {
+    let loaded = load_run(bytes, &mut deeds);
+    let n = loaded.unwrap_or(0);
+    let filled = (n == 0 || n == count(bytes))
+        && deeds.iter().enumerate().all(|(i, deed)| {
+            if i < n {
                 deed_agrees(bytes, n, i, deed)
             } else {
                 *deed == held
-            };
-    }
-    (verdict, filled)
+            }
+        });
+    (loaded.map(|_| ()), filled)
 }

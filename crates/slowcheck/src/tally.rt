@@ -1,6 +1,7 @@
 //! How many agreed, by kind of outcome.
 use crate::fronts::{Front, forbidden_at};
-use std::io;
+use fault::fault::Fault;
+use std::{fmt, io};
 
 /// A count that cannot overflow.
 #[derive(Clone, Copy)]
@@ -14,17 +15,20 @@ impl Count {
     pub fn add(&mut self) {
         self.0 = self.0.saturating_add(1);
     }
+}
 
-    pub fn value(&self) -> u64 {
-        self.0
+impl fmt::Display for Count {
+    fn fmt<W: fmt::Write>(&self, f: &mut fmt::Formatter<W>) -> fmt::Result {
+        write!(f, "{}", self.0)
     }
 }
 
 /// What the sheets and lists came to.
 #[derive(Drop)]
 pub struct Tally {
-    // By the number of the refusal, 0 for accepted.
-    verdicts: [Count; 9],
+    accepted: Count,
+    // By the number of the refusal.
+    refused: [Count; 9],
     lists: Count,
     forbidden: Count,
     not_forbidden: Count,
@@ -39,7 +43,8 @@ impl Tally {
     pub fn new() -> Tally {
         let none = Count::none();
         Tally {
-            verdicts: [none; 9],
+            accepted: none,
+            refused: [none; 9],
             lists: none,
             forbidden: none,
             not_forbidden: none,
@@ -51,10 +56,15 @@ impl Tally {
         }
     }
 
-    /// A sheet that was refused with this number, or accepted with 0.
-    pub fn sheet(&mut self, number: u8) {
-        if number < 9 {
-            self.verdicts[number as usize].add();
+    /// A sheet that was accepted or refused.
+    pub fn sheet(&mut self, verdict: Result<(), Fault>) {
+        match verdict {
+            Ok(()) => self.accepted.add(),
+            Err(fault) => {
+                if let Some(count) = self.refused.get_mut(fault.number() as usize) {
+                    count.add();
+                }
+            }
         }
     }
 
@@ -94,11 +104,9 @@ impl Tally {
 
     // The numbers with which none was refused are left out.
     fn print_verdicts(&self, rt: &HostRuntime) -> io::Result<()> {
-        for (number, count) in self.verdicts.iter().enumerate() {
-            let many = count.value();
-            if number == 0 {
-                println!(rt; "  accepted: {many}")?;
-            } else if many > 0 {
+        println!(rt; "  accepted: {}", self.accepted)?;
+        for (number, many) in self.refused.iter().enumerate() {
+            if many.0 > 0 {
                 println!(rt; "  refused {number}: {many}")?;
             }
         }
@@ -106,24 +114,21 @@ impl Tally {
     }
 
     fn print_lists(&self, rt: &HostRuntime) -> io::Result<()> {
-        let lists = self.lists.value();
-        let forbidden = self.forbidden.value();
-        let not_forbidden = self.not_forbidden.value();
-        let negative = self.negative.value();
-        let not_negative = self.not_negative.value();
-        println!(rt; "  lists on which all agreed: {lists}")?;
+        println!(rt; "  lists on which all agreed: {}", self.lists)?;
         println!(rt;
-            "  their front parts, forbidden: {forbidden}, not forbidden: {not_forbidden}"
+            "  their front parts, forbidden: {}, not forbidden: {}",
+            self.forbidden, self.not_forbidden
         )?;
-        println!(rt; "  their front parts, negative traces: {negative}, others: {not_negative}")
+        println!(rt;
+            "  their front parts, negative traces: {}, others: {}",
+            self.negative, self.not_negative
+        )
     }
 
     fn print_answers(&self, rt: &HostRuntime) -> io::Result<()> {
-        let done = self.done.value();
-        let barred = self.barred.value();
-        let stopped = self.stopped.value();
         println!(rt;
-            "  answers of gates, done: {done}, barred: {barred}, stopped earlier: {stopped}"
+            "  answers of gates, done: {}, barred: {}, stopped earlier: {}",
+            self.done, self.barred, self.stopped
         )
     }
 

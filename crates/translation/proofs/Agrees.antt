@@ -1,19 +1,20 @@
 -- The table of accepted bytes makes the same of every call as the bytes do.
-use Rattle.std.proofs.Common.{◌≡◌, ℕ, zero, suc, ◌+◌, ◌*◌, ◌%◌, ◌<◌, ◌≤◌, min, Bool, true, false, not, ◌||◌, eqb, ltb, List, length, get_or, Some, None, Ok, Option, sym, refl, ap, ◌∙◌, subst, mod-eq_of_lt, arith, length-drop, length-take}
+use Rattle.std.proofs.Common.{◌≡◌, ℕ, zero, suc, ◌+◌, ◌*◌, ◌%◌, ◌<◌, ◌≤◌, min, Bool, true, false, not, ◌||◌, eqb, ltb, List, length, get_or, Some, None, Ok, Option, sym, refl, ap, ap₂, ◌∙◌, subst, mod-eq_of_lt, arith, length-drop, length-take}
 use native.Mathlib.Nat.{min-eq_left}
 use Rattle.std.specs.Option.{option_map}
 use Rattle.std.proofs.lemmas.List.FromFn.{get_or-map-range_with_len}
 use Rattle.std.proofs.lemmas.Bool.{or_parts, not-false, eqb-true, ltb-false, lt-ltb}
 use Rattle.fault.specs.declared.fault.Fault.TheVariants.{TranslationShape, TranslationRow}
-use Rattle.fault.specs.Checks.{◌then◌, refuse_if, lowest}
+use Rattle.fault.specs.Checks.{◌then◌, lowest}
 use Rattle.fault.specs.Laws.{Picks}
 use Rattle.fault.proofs.Lowest.{lowest_means}
 use Rattle.fault.proofs.Passed.{then_parts, if_passed, at_passed}
 use Rattle.action.specs.declared.call.Call.{Call}
 use Rattle.action.specs.Ranges.{highest_address, highest_kind}
 use Rattle.translation.specs.declared.translation.Row.{Row}
+use Rattle.translation.specs.declared.translation.Translation.{Translation}
 use Rattle.translation.specs.Tables.{most_rows, highest_selector, code, deed_by, blank, row_of, image}
-use Rattle.translation.specs.Files.{count_of, codes_of, rows_of, four_of, shape_wrong, row_wrong, row_with, row_at, table_of, translation_of, translation_check, rows_check, codes_check, deed_in, file_image, ByItsRow}
+use Rattle.translation.specs.Files.{shape_check, count_of, codes_of, rows_of, four_of, shape_wrong, row_wrong, row_with, row_at, table_of, translation_of, translation_check, rows_check, codes_check, deed_in, file_image, ByItsRow}
 use Rattle.translation.proofs.Rising.{by_its_row}
 
 -- two tests that agree below n pick the same
@@ -63,7 +64,7 @@ record Accepted (b : List ℕ) : Type 0 where
 
 accepted : (b : List ℕ) → Ok tt ≡ translation_check b → Accepted b
 accepted b ok =
-    let checks = then_parts (refuse_if TranslationShape (shape_wrong b)) (rows_check (codes_of b) (rows_of b) then codes_check (codes_of b)) ok in
+    let checks = then_parts (shape_check b) (rows_check (codes_of b) (rows_of b) then codes_check (codes_of b)) ok in
     let rest = then_parts (rows_check (codes_of b) (rows_of b)) (codes_check (codes_of b)) checks.1 in
     let shape = if_passed TranslationShape (shape_wrong b) checks.0 in
     let p = or_parts (eqb (length b) 0 || ltb most_rows (count_of b)) (not (eqb (length b) (1 + 5 * count_of b))) shape in
@@ -71,6 +72,14 @@ accepted b ok =
     let few = ltb-false most_rows (count_of b) q.1 in
     let long = eqb-true (length b) (1 + 5 * count_of b) (not-false (eqb (length b) (1 + 5 * count_of b)) p.1) in
     record { few = few; count = simp (length-take, length-drop) (omega arith); rows = rest.0; codes = rest.1 }
+
+-- what is read of accepted bytes is their table
+pub table_is : (b codes rows : List ℕ) (table : List Row) → codes ≡ codes_of b → rows ≡ rows_of b → table ≡ table_of codes rows → Ok tt ≡ translation_check b → ◌≡◌ {A = Translation} (record { rows = table; used = length codes }) (translation_of b)
+table_is b codes rows table p q t ok =
+    let h = accepted b ok in
+    let n : length codes ≡ count_of b = ap (length {A = ℕ}) p ∙ h.count in
+    let z : table ≡ table_of (codes_of b) (rows_of b) = t ∙ ap₂ table_of p q in
+    ap₂ (λ (rows : List Row) (used : ℕ). let r : Translation = record { rows = rows; used = used } in r) z n
 
 pub agrees : (b : List ℕ) → Ok tt ≡ translation_check b → (c : Call) → image (translation_of b) c ≡ file_image b c
 agrees b ok c =

@@ -1,3 +1,4 @@
 pub mod Ranged
 pub mod Rising
 pub mod Agrees
+pub mod Made

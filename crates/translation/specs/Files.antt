@@ -33,6 +33,9 @@ four_of rows i = between (4 * i) (4 * i + 4) rows
 abbrev pub shape_wrong : List ℕ → Bool
 shape_wrong b = length b == 0 || nat_lt most_rows (count_of b) || not (length b == 1 + 5 * count_of b)
 
+abbrev pub shape_check : List ℕ → Check
+shape_check b = refuse_if TranslationShape (shape_wrong b)
+
 -- 10: a row outside its ranges, the lowest such
 abbrev pub row_wrong : List ℕ → Bool
 row_wrong row = nat_lt highest_address (slice_index row 0) || nat_lt highest_kind (slice_index row 1) || nat_lt highest_selector (slice_index row 2) || nat_lt highest_selector (slice_index row 3)
@@ -49,7 +52,7 @@ codes_check codes = refuse_at (λ i. TranslationOrder i) (lowest (code_wrong cod
 
 abbrev pub translation_check : List ℕ → Check
 translation_check b =
-    refuse_if TranslationShape (shape_wrong b)
+    shape_check b
     then rows_check (codes_of b) (rows_of b)
     then codes_check (codes_of b)
 

@@ -1,14 +1,14 @@
-ghost use Rattle.std.specs.Prelude.{◌≡◌, ◌*◌, ◌<◌, length, Ok};
-ghost use Rattle.fault.specs.declared.fault.Fault.TheVariants.{TranslationRow};
-ghost use Rattle.fault.specs.Checks.{refuse_if, filled};
+ghost use Rattle.std.specs.Prelude.{◌≡◌, ℕ, ◌*◌, ◌<◌, Ok, length, drop, zip, position, nat_le, slice_index_or, [], MatchResult};
+ghost use Rattle.fault.specs.Checks.{filled};
 ghost use Rattle.action.specs.declared.call.Call.{Call};
-ghost use Rattle.translation.specs.Tables.{most_rows, image};
-ghost use Rattle.translation.specs.Files.{row_wrong, rows_check, code_wrong, codes_check, row_at, table_of, translation_check, translation_of, file_image, ByItsRow};
+ghost use Rattle.translation.specs.Tables.{image};
+ghost use Rattle.translation.specs.Files.{codes_of, rows_of, shape_check, four_of, row_wrong, rows_check, codes_check, row_at, table_of, translation_check, translation_of, file_image, ByItsRow};
 
 use crate::translation::{HIGHEST_SELECTOR, MOST_ROWS, Row, Translation};
 use action::deed::HIGHEST_ADDRESS;
 use action::kind::HIGHEST_KIND;
 use fault::fault::Fault;
+use std::array;
 
 /// Loads a translation from bytes into a place that the caller lends; or refusal 9, 10 or 11, and the place is as it was.
 pub fn load_translation(bytes: &[u8], place: &mut Translation) -> Result<(), Fault>
@@ -17,91 +17,112 @@ pub fn load_translation(bytes: &[u8], place: &mut Translation) -> Result<(), Fau
     ensures means { result ≡ Ok tt → (c : Call) → image place.new c ≡ file_image bytes.now c }
     ensures rows { result ≡ Ok tt → (c : Call) → ByItsRow bytes.now c (image place.new c) }
 {
-    let [count, rest @ ..] = bytes else {
-        return Err(Fault::TranslationShape);
+    let rows = Rows::of(bytes)?;
+    rows.check_ranges()?;
+    rows.check_order()?;
+    *place = Translation {
+        rows: rows.table(),
+        used: rows.codes.len(),
     };
-    let count = *count as usize;
-    if count > MOST_ROWS || rest.len() != 5 * count {
-        return Err(Fault::TranslationShape);
-    }
-    let codes = &rest[0..count];
-    let rows = &rest[count..];
-    check_rows(codes, rows)?;
-    check_codes(codes)?;
-    place.used = count;
-    fill(codes, rows, &mut place.rows);
     Ok(())
 }
 
-// Refusal 10, at the lowest row outside its ranges.
-fn check_rows(codes: &[u8], rows: &[u8]) -> Result<(), Fault>
-    requires { length rows.now ≡ 4 * length codes.now }
-    ensures { result ≡ rows_check codes.now rows.now }
-{
-    for i in 0..codes.len() {
-        check_row(&rows[4 * i..4 * i + 4], i)?;
-    }
-    Ok(())
+// The rows of a translation as its bytes hold them: the code of each, and four bytes of each.
+#[derive(Drop)]
+struct Rows<'a> {
+    codes: &'a [u8],
+    rows: &'a [u8],
+    ghost four: { length rows.now ≡ 4 * length codes.now },
 }
 
-// Refusal 10, at row i, if these bytes of it are outside their ranges.
-fn check_row(row: &[u8], i: usize) -> Result<(), Fault>
-    requires { length row.now ≡ 4 }
-    ensures { result ≡ refuse_if (TranslationRow i) (row_wrong row.now) }
-{
-    if row[0] > HIGHEST_ADDRESS
-        || row[1] > HIGHEST_KIND
-        || row[2] > HIGHEST_SELECTOR
-        || row[3] > HIGHEST_SELECTOR
+impl<'a> Rows<'a> {
+    // The rows that the bytes hold, or refusal 9.
+    fn of(bytes: &'a [u8]) -> Result<Rows<'a>, Fault>
+        ensures { MatchResult result (λ r. (Ok tt ≡ shape_check bytes.now) × (r.codes.now ≡ codes_of bytes.now) × (r.rows.now ≡ rows_of bytes.now)) (λ f. Err f ≡ shape_check bytes.now) }
     {
-        return Err(Fault::TranslationRow(i));
+        let [count, rest @ ..] = bytes else {
+            return Err(Fault::TranslationShape);
+        };
+        let count = *count as usize;
+        if count > MOST_ROWS || rest.len() != 5 * count {
+            return Err(Fault::TranslationShape);
+        }
+        let (codes, rows) = rest.split_at(count);
+        Ok(Rows { codes, rows })
     }
-    Ok(())
-}
 
-// Refusal 11, at the lowest row whose code is not above the one before it.
-fn check_codes(codes: &[u8]) -> Result<(), Fault>
-    ensures { result ≡ codes_check codes.now }
-{
-    for i in 0..codes.len() {
-        if falls(codes, i) {
-            return Err(Fault::TranslationOrder(i));
+    // The four bytes of each.
+    fn fours(&self) -> &'a [[u8; 4]]
+        ensures count { length result.now ≡ length self.now.codes.now }
+        ensures each { (i : ℕ) → i < length result.now → slice_index_or result.now i [] ≡ four_of self.now.rows.now i }
+    {
+        let (fours, _) = self.rows.as_chunks();
+        fours
+    }
+
+    // Refusal 10, at the lowest row outside its ranges.
+    // Stays: a `match` of its own, as in the checks of a sheet.
+    fn check_ranges(&self) -> Result<(), Fault>
+        ensures { result ≡ rows_check self.now.codes.now self.now.rows.now }
+    {
+        match first_outside(self.fours()) {
+            Some(i) => Err(Fault::TranslationRow(i)),
+            None => Ok(()),
         }
     }
-    Ok(())
-}
 
-fn falls(codes: &[u8], i: usize) -> bool
-    requires { i < length codes.now }
-    ensures { result ≡ code_wrong codes.now i }
-{
-    i > 0 && codes[i] <= codes[i - 1]
-}
+    // Refusal 11, at the lowest row whose code is not above the one before it.
+    fn check_order(&self) -> Result<(), Fault>
+        ensures { result ≡ codes_check self.now.codes.now }
+    {
+        match first_fall(self.codes) {
+            Some(i) => Err(Fault::TranslationOrder(i + 1)),
+            None => Ok(()),
+        }
+    }
 
-// The rows of the bytes, and blank ones after them.
-fn fill(codes: &[u8], rows: &[u8], out: &mut [Row])
-    requires room { length out.old ≡ most_rows }
-    requires four { length rows.now ≡ 4 * length codes.now }
-    ensures { out.new ≡ table_of codes.now rows.now }
-{
-    for i in 0..out.len() {
-        out[i] = read_row(codes, rows, i);
+    // Row i, or past the last a blank one.
+    fn row(&self, i: usize) -> Row
+        ensures { result ≡ row_at self.now.codes.now self.now.rows.now i }
+    {
+        match (self.codes.get(i), self.fours().get(i)) {
+            (Some(code), Some([address, signal, first, second])) => Row {
+                code: *code,
+                address: *address,
+                signal: *signal,
+                first: *first,
+                second: *second,
+            },
+            _ => Row::blank(),
+        }
+    }
+
+    // The rows, and blank ones after them.
+    fn table(&self) -> [Row; MOST_ROWS]
+        ensures { result ≡ table_of self.now.codes.now self.now.rows.now }
+    {
+        array::from_fn(|i| self.row(i))
     }
 }
 
-fn read_row(codes: &[u8], rows: &[u8], i: usize) -> Row
-    requires { length rows.now ≡ 4 * length codes.now }
-    ensures { result ≡ row_at codes.now rows.now i }
+// The first row outside its ranges.
+fn first_outside(fours: &[[u8; 4]]) -> Option<usize>
+    ensures { result ≡ position row_wrong fours.now }
 {
-    if i >= codes.len() {
-        return Row::blank();
-    }
-    let row = &rows[4 * i..4 * i + 4];
-    Row {
-        code: codes[i],
-        address: row[0],
-        signal: row[1],
-        first: row[2],
-        second: row[3],
-    }
+    fours.iter().position(|[address, signal, first, second]| {
+        *address > HIGHEST_ADDRESS
+            || *signal > HIGHEST_KIND
+            || *first > HIGHEST_SELECTOR
+            || *second > HIGHEST_SELECTOR
+    })
+}
+
+// The first code that is not below the next.
+fn first_fall(codes: &[u8]) -> Option<usize>
+    ensures { result ≡ position (λ q. nat_le q.1 q.0) (zip codes.now (drop 1 codes.now)) }
+{
+    codes
+        .iter()
+        .zip(codes.iter().skip(1))
+        .position(|(code, next)| next <= code)
 }

@@ -1,9 +1,8 @@
-ghost use Rattle.std.specs.Prelude.{◌≡◌, Some};
+ghost use Rattle.std.specs.Prelude.{◌≡◌};
 ghost use Rattle.translation.specs.Tables.{argument, deed_by, row_of, image, no_rows, blank};
 
 use action::call::Call;
-use action::deed::{Deed, HIGHEST_ADDRESS};
-use action::kind::HIGHEST_KIND;
+use action::deed::Deed;
 
 /// The most rows that a translation has.
 pub const MOST_ROWS: usize = 64;
@@ -15,6 +14,7 @@ pub const HIGHEST_SELECTOR: u8 = 3;
 // Whatever the fields hold is read as parts within the ranges.
 #[derive(Clone, Copy)]
 pub(crate) struct Row {
+    // Stays: bytes, as in a deed, read as parts within the ranges.
     pub(crate) code: u8,
     pub(crate) address: u8,
     pub(crate) signal: u8,
@@ -37,19 +37,18 @@ impl Row {
         }
     }
 
-    // The deed that a call becomes by this row; there always is one.
-    fn deed(&self, call: &Call) -> Option<Deed>
-        ensures { result ≡ Some (deed_by self.now call.now) }
+    // The deed that a call becomes by this row.
+    fn deed(&self, call: &Call) -> Deed
+        ensures { result ≡ deed_by self.now call.now }
     {
         let first = selected(self.first % (HIGHEST_SELECTOR + 1), call);
         let second = selected(self.second % (HIGHEST_SELECTOR + 1), call);
-        let address = self.address % (HIGHEST_ADDRESS + 1);
-        let signal = self.signal % (HIGHEST_KIND + 1);
-        Deed::from_bytes(&[address, signal, first, second]).ok()
+        Deed::reading(self.address, self.signal, first, second)
     }
 }
 
 // What a selector takes from a call.
+// Stays: a selector is the byte of the file, and an enum would be one more reading of it into these four cases.
 fn selected(selector: u8, call: &Call) -> u8
     ensures { result ≡ argument selector call.now }
 {
@@ -62,6 +61,7 @@ fn selected(selector: u8, call: &Call) -> u8
 }
 
 /// Which calls become a deed, and which deed: a table of rows, and how many of them are used.
+// Stays: a library has no memory of its own to keep a list in.
 #[derive(Clone, Copy)]
 pub struct Translation {
     pub(crate) rows: [Row; MOST_ROWS],
@@ -85,7 +85,7 @@ impl Translation {
         ensures { result ≡ image self.now call.now }
     {
         let row = find_row(&self.rows, self.used, 8 * call.family() + call.form())?;
-        row.deed(call)
+        Some(row.deed(call))
     }
 }
 
@@ -93,11 +93,5 @@ impl Translation {
 fn find_row(rows: &[Row; MOST_ROWS], used: usize, code: u8) -> Option<Row>
     ensures { result ≡ row_of rows.now used code }
 {
-    for i in 0..used.min(MOST_ROWS) {
-        let row = rows[i];
-        if row.code == code {
-            return Some(row);
-        }
-    }
-    None
+    rows.iter().take(used).find(|row| row.code == code).copied()
 }

@@ -5,7 +5,8 @@ use lib.Bits.{bit_or, or_step, or_shr}
 use Rattle.std.proofs.lemmas.Nat.{shl-shr, pow-add, pow_below}
 use Rattle.std.proofs.lemmas.Bool.{cases_lt, cases_order, eqb-true, eq-eqb}
 use Rattle.watch.specs.Meaning.{Iff}
-use Rattle.watch.specs.Orders.{In, with_kind}
+use Rattle.watch.specs.declared.kinds.Kinds.{Kinds}
+use Rattle.watch.specs.Sets.{no_kinds, In, with_kind, union}
 
 -- the last digit of a union is the larger of two
 last_or : (a b : ℕ) → bit_or a b % 2 ≡ max (a % 2) (b % 2)
@@ -18,10 +19,10 @@ larger_one a b = (
 )
 
 -- what is in a union
-pub in_or : (a b k : ℕ) → Iff (In (bit_or a b) k) (In a k ⊎ In b k)
+pub in_or : (a b : Kinds) (k : ℕ) → Iff (In (union a b) k) (In a k ⊎ In b k)
 in_or a b k =
-    let s : bit_or a b / 2 ^ k % 2 ≡ max (a / 2 ^ k % 2) (b / 2 ^ k % 2) = rw or_shr (last_or (a / 2 ^ k) (b / 2 ^ k)) in
-    let i = larger_one (a / 2 ^ k) (b / 2 ^ k) in (
+    let s : bit_or a.digits b.digits / 2 ^ k % 2 ≡ max (a.digits / 2 ^ k % 2) (b.digits / 2 ^ k % 2) = rw or_shr (last_or (a.digits / 2 ^ k) (b.digits / 2 ^ k)) in
+    let i = larger_one (a.digits / 2 ^ k) (b.digits / 2 ^ k) in (
       (λ h. ⊎_elim (λ p. inl (eq-eqb _ _ p)) (λ p. inr (eq-eqb _ _ p)) (i.0 (sym s ∙ eqb-true _ _ h))),
       (λ h. eq-eqb _ _ (s ∙ i.1 (⊎_elim (λ p. inl (eqb-true _ _ p)) (λ p. inr (eqb-true _ _ p)) h))),
     )
@@ -44,13 +45,13 @@ digit_one j k h =
     ⊎_elim (λ (e : k ≡ j). e) (⊎_elim (λ (l : k < j). absurd (omega (arith, below j k l))) (λ (l : j < k). absurd (omega (arith, above j k l)))) (cases_order k j)
 
 -- what is in a set with one more
-pub in_with : (set j k : ℕ) → Iff (In (with_kind set j) k) (In set k ⊎ (k ≡ j))
+pub in_with : (set : Kinds) (j k : ℕ) → Iff (In (with_kind set j) k) (In set k ⊎ (k ≡ j))
 in_with set j k =
-    let o = in_or set (2 ^ j) k in (
+    let o = in_or set (record { digits = 2 ^ j }) k in (
       (λ h. ⊎_elim inl (λ p. inr (digit_one j k (eqb-true _ _ p))) (o.0 h)),
       (λ h. o.1 (⊎_elim inl (λ (e : k ≡ j). inr (eq-eqb _ _ (let w = same j in rw e (omega arith)))) h)),
     )
 
 -- nothing is in the empty set
-pub in_none : (k : ℕ) → In 0 k → ⊥
+pub in_none : (k : ℕ) → In no_kinds k → ⊥
 in_none k h = let z = zero-div (2 ^ k) in omega (arith, eqb-true _ _ h)

@@ -1,5 +1,5 @@
 -- What a cap forbids.
-use Rattle.std.specs.Prelude.{◌≡◌, ℕ, ◌<◌, ◌≤◌, true, ◌⊎◌, List, Ok, Err, Result}
+use Rattle.std.specs.Prelude.{◌≡◌, ℕ, ◌<◌, ◌≤◌, List, Some, None, Option, Ok, Err, Result}
 use Rattle.fault.specs.declared.fault.Fault.{Fault}
 use Rattle.fault.specs.declared.fault.Fault.TheVariants.{OutOfRange}
 use Rattle.action.specs.Ranges.{highest_kind}
@@ -11,9 +11,13 @@ use Rattle.watch.specs.Meaning.{Alike}
 abbrev pub Over : {X : Type 0} → (X → ℕ) → ℕ → ℕ → List X → Type 0
 Over kind k limit l = limit < tally kind k l
 
--- a cap knows how many are left to it, and whether there were too many already
+-- a cap knows how many are left to it; once there were too many, it forbids every list
+abbrev pub OverLeft : {X : Type 0} → (X → ℕ) → ℕ → Option ℕ → List X → Type 0
+OverLeft kind k None l = Unit {0}
+OverLeft kind k (Some left) l = Over kind k left l
+
 abbrev pub cap_forbids : {X : Type 0} → (X → ℕ) → Cap X → List X → Type 0
-cap_forbids kind c l = (c.broken ≡ true) ⊎ Over kind c.kind.value c.left l
+cap_forbids kind c = OverLeft kind c.kind.value c.left
 
 -- a new cap, or refusal 13 exactly where k is no kind
 abbrev pub NewCap : {X : Type 0} → (X → ℕ) → ℕ → ℕ → Result (Cap X) Fault → Type 0

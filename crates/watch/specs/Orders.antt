@@ -1,11 +1,13 @@
 -- What an order forbids.
-use Rattle.std.specs.Prelude.{◌≡◌, ℕ, ◌/◌, ◌%◌, ◌^◌, ◌<◌, Bool, true, ◌⊎◌, List, [], ◌∷◌, length, get_or, Ok, Err, Result, ◌==◌, bit_or, slice_index, slice_index_or}
+use Rattle.std.specs.Prelude.{◌≡◌, ℕ, ◌<◌, Bool, true, cond, ◌⊎◌, List, [], ◌∷◌, length, get_or, Some, None, Option, Ok, Err, Result, slice_index_or}
 use Rattle.fault.specs.declared.fault.Fault.{Fault}
 use Rattle.fault.specs.declared.fault.Fault.TheVariants.{OutOfRange}
 use Rattle.action.specs.Ranges.{highest_kind}
 use Rattle.action.specs.Traces.{Sub}
+use Rattle.watch.specs.declared.kinds.Kinds.{Kinds}
 use Rattle.watch.specs.declared.order.Order.{Order}
 use Rattle.watch.specs.Meaning.{Iff, Alike}
+use Rattle.watch.specs.Sets.{no_kinds, member, In, union}
 
 -- an action of the list is followed, with or without gaps, by one, and P holds of their kinds
 pub record Followed {X : Type 0} (kind : X → ℕ) (P : ℕ → ℕ → Type 0) (l : List X) : Type 0 where
@@ -28,23 +30,28 @@ pub record Met {X : Type 0} (kind : X → ℕ) (P : ℕ → Type 0) (l : List X)
   pub within : Sub (one ∷ []) l
   pub such : P (kind one)
 
--- a set of kinds is a number: k is in it where its binary digit k is 1
-abbrev pub member : ℕ → ℕ → Bool
-member set k = (set / 2 ^ k % 2) == 1
+-- the set of those that may not follow the kind k
+abbrev pub row : List Kinds → ℕ → Kinds
+row after k = get_or after k no_kinds
 
-abbrev pub In : ℕ → ℕ → Type 0
-In set k = member set k ≡ true
+-- where the set of those that may not come any more is barred, until such a one came: whether the kind k may not come
+abbrev pub bars_kind : Option Kinds → ℕ → Bool
+bars_kind None k = true
+bars_kind (Some barred) k = member barred k
 
-abbrev pub with_kind : ℕ → ℕ → ℕ
-with_kind set k = bit_or set (2 ^ k)
+-- that set once one of the kind k came, where those of a set may not follow it
+abbrev pub barred_after : Option Kinds → Kinds → ℕ → Option Kinds
+barred_after None set k = None
+barred_after (Some barred) set k = cond (member barred k) None (Some (union barred set))
 
--- an order knows for each kind the set of those that may not follow it, the set of those that may not come any more,
--- and whether such a one came
-abbrev pub Forbids : {X : Type 0} → (X → ℕ) → List ℕ → ℕ → Bool → List X → Type 0
-Forbids kind after barred broken l = (broken ≡ true) ⊎ (Met kind (In barred) l ⊎ Followed kind (λ a b. In (slice_index after a) b) l)
+-- an order knows for each kind the set of those that may not follow it, and the set of those that may not come any
+-- more; once such a one came, it forbids every list
+abbrev pub Forbids : {X : Type 0} → (X → ℕ) → List Kinds → Option Kinds → List X → Type 0
+Forbids kind after None l = Unit {0}
+Forbids kind after (Some barred) l = Met kind (In barred) l ⊎ Followed kind (λ a b. In (row after a) b) l
 
 abbrev pub order_forbids : {X : Type 0} → (X → ℕ) → Order X → List X → Type 0
-order_forbids kind o = Forbids kind o.after o.barred o.broken
+order_forbids kind o = Forbids kind o.after o.barred
 
 -- a new order, or refusal 13 exactly where a pair has a number that is no kind
 abbrev pub NewOrder : {X : Type 0} → (X → ℕ) → List (ℕ × ℕ) → Result (Order X) Fault → Type 0
@@ -52,6 +59,6 @@ NewOrder kind pairs (Ok o) = (Outside pairs → ⊥) × Alike (order_forbids kin
 NewOrder kind pairs (Err f) = Outside pairs × (f ≡ OutOfRange)
 
 -- its table, which has the pairs and no other
-abbrev pub Tabled : List (ℕ × ℕ) → Result (List ℕ) Fault → Type 0
-Tabled pairs (Ok after) = (Outside pairs → ⊥) × ((a b : ℕ) → Iff (In (slice_index after a) b) (Paired pairs a b))
+abbrev pub Tabled : List (ℕ × ℕ) → Result (List Kinds) Fault → Type 0
+Tabled pairs (Ok after) = (Outside pairs → ⊥) × ((a b : ℕ) → Iff (In (row after a) b) (Paired pairs a b))
 Tabled pairs (Err f) = Outside pairs × (f ≡ OutOfRange)

@@ -11,22 +11,20 @@ use std::marker::PhantomData;
 #[derive(Drop)]
 pub struct Cap<T> {
     kind: Kind,
-    // how many more of them are allowed
-    left: u16,
-    // whether there were more than allowed
-    broken: bool,
+    // how many more of them are allowed; `None` once there were more
+    left: Option<u16>,
     of: PhantomData<T>,
 }
 
 impl<T: Action> Cap<T> {
     /// Forbids lists with more actions of this kind than the limit; or refusal 13.
+    // Stays: any number may be given, and refusal 13 says which names no kind.
     pub fn new(kind: u8, limit: u16) -> Result<Cap<T>, Fault>
         ensures { NewCap T.Action.kind kind limit result }
     {
         Ok(Cap {
-            kind: Kind::new(kind)?,
-            left: limit,
-            broken: false,
+            kind: Kind::try_from(kind)?,
+            left: Some(limit),
             of: PhantomData,
         })
     }
@@ -40,20 +38,19 @@ impl<T: Action> Watch for Cap<T> {
     ghost leaving = { λ w. cap_leaves T.Action.kind w };
 
     fn broken(&self) -> bool {
-        self.broken
+        self.left.is_none()
     }
 
     fn bars(&self, a: &T) -> bool {
-        self.broken || (self.left == 0 && a.kind().value() == self.kind.value())
+        match self.left {
+            None => true,
+            Some(left) => left == 0 && a.kind() == self.kind,
+        }
     }
 
     fn note(&mut self, a: &T) {
-        if a.kind().value() == self.kind.value() {
-            if self.left == 0 {
-                self.broken = true;
-            } else {
-                self.left -= 1;
-            }
+        if a.kind() == self.kind {
+            self.left = self.left.and_then(|left| left.checked_sub(1));
         }
     }
 }

@@ -2,6 +2,8 @@
 #![tactic(auto)]
 
 pub mod cap;
+mod kinds;
+pub mod lent;
 pub mod narrowed;
 pub mod order;
 pub mod pair;

@@ -31,7 +31,7 @@ impl<W: Watch<Act = Deed>> Narrowed<W> {
     fn shows(&self, deed: &Deed) -> bool
         ensures { result ≡ (partner_of deed.now == self.now.partner.value) }
     {
-        deed.partner().value() == self.partner.value()
+        deed.partner() == self.partner
     }
 }
 

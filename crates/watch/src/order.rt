@@ -1,7 +1,9 @@
-ghost use Rattle.std.specs.Prelude.{◌≡◌, false, ◌||◌, set as set_at, bit_or, slice_index};
-ghost use Rattle.watch.specs.Orders.{member, with_kind, NewOrder, Tabled, order_forbids};
+ghost use Rattle.std.specs.Prelude.{◌≡◌, set as set_at};
+ghost use Rattle.watch.specs.Sets.{with_kind};
+ghost use Rattle.watch.specs.Orders.{NewOrder, Tabled, row, bars_kind as barred_kind, barred_after, order_forbids};
 ghost use Rattle.watch.specs.Leaving.{order_leaves};
 
+use crate::kinds::Kinds;
 use crate::watch::Watch;
 use action::action::Action;
 use action::kind::Kind;
@@ -12,48 +14,46 @@ use std::marker::PhantomData;
 #[derive(Drop)]
 pub struct Order<T> {
     // for each kind the set of those that may not follow it
-    after: [u32; 32],
-    // the set of those that may not come any more
-    barred: u32,
-    // whether such a one came
-    broken: bool,
+    after: [Kinds; 32],
+    // the set of those that may not come any more; `None` once such a one came
+    barred: Option<Kinds>,
     of: PhantomData<T>,
 }
 
 impl<T: Action> Order<T> {
     /// Forbids lists in which an action of a pair's first kind is followed, with or without gaps, by one of its second;
     /// or refusal 13.
+    // Stays: any numbers may be given, and refusal 13 says which name no kind.
     pub fn new(pairs: &[(u8, u8)]) -> Result<Order<T>, Fault>
         ensures { NewOrder T.Action.kind pairs.now result }
     {
-        Ok(Order::over(tabled(pairs)?))
-    }
-
-    // The order of a table, before anything came.
-    fn over(after: [u32; 32]) -> Order<T>
-        ensures { (result.after ≡ after) × (result.barred ≡ 0) × (result.broken ≡ false) }
-    {
-        Order {
-            after,
-            barred: 0,
-            broken: false,
+        Ok(Order {
+            after: tabled(pairs)?,
+            barred: Some(Kinds::NONE),
             of: PhantomData,
-        }
+        })
     }
 
     fn bars_kind(&self, kind: Kind) -> bool
-        ensures { result ≡ (self.now.broken || member self.now.barred kind.value) }
+        ensures { result ≡ barred_kind self.now.barred kind.value }
     {
-        self.broken || has(self.barred, kind)
+        match self.barred {
+            None => true,
+            Some(barred) => barred.has(kind),
+        }
     }
 
     fn note_kind(&mut self, kind: Kind)
         ensures after { self.new.after ≡ self.old.after }
-        ensures barred { self.new.barred ≡ bit_or self.old.barred (slice_index self.old.after kind.value) }
-        ensures broken { self.new.broken ≡ (self.old.broken || member self.old.barred kind.value) }
+        ensures barred { self.new.barred ≡ barred_after self.old.barred (row self.old.after kind.value) kind.value }
     {
-        self.broken |= has(self.barred, kind);
-        self.barred |= followers(&self.after, kind);
+        if let Some(barred) = self.barred {
+            self.barred = if barred.has(kind) {
+                None
+            } else {
+                Some(barred.or(self.after[kind.value() as usize]))
+            };
+        }
     }
 }
 
@@ -65,7 +65,7 @@ impl<T: Action> Watch for Order<T> {
     ghost leaving = { λ w. order_leaves T.Action.kind w };
 
     fn broken(&self) -> bool {
-        self.broken
+        self.barred.is_none()
     }
 
     fn bars(&self, a: &T) -> bool {
@@ -78,44 +78,22 @@ impl<T: Action> Watch for Order<T> {
 }
 
 // The table of pairs of kinds.
-fn tabled(pairs: &[(u8, u8)]) -> Result<[u32; 32], Fault>
+fn tabled(pairs: &[(u8, u8)]) -> Result<[Kinds; 32], Fault>
     ensures { Tabled pairs.now result }
 {
-    let mut after = [0; 32];
-    for i in 0..pairs.len() {
-        let pair = pairs[i];
-        let first = Kind::new(pair.0)?;
-        let second = Kind::new(pair.1)?;
+    let mut after = [Kinds::NONE; 32];
+    for pair in pairs {
+        let first = Kind::try_from(pair.0)?;
+        let second = Kind::try_from(pair.1)?;
         add(&mut after, first, second);
     }
     Ok(after)
 }
 
 // One pair more.
-fn add(after: &mut [u32; 32], first: Kind, second: Kind)
-    ensures { after.new ≡ set_at after.old first.value (with_kind (slice_index after.old first.value) second.value) }
+fn add(after: &mut [Kinds; 32], first: Kind, second: Kind)
+    ensures { after.new ≡ set_at after.old first.value (with_kind (row after.old first.value) second.value) }
 {
     let at = first.value() as usize;
-    after[at] = with(after[at], second);
-}
-
-// The set of the kinds that may not follow one.
-fn followers(after: &[u32; 32], kind: Kind) -> u32
-    ensures { result ≡ slice_index after.now kind.value }
-{
-    after[kind.value() as usize]
-}
-
-// Whether a kind is in a set.
-fn has(set: u32, kind: Kind) -> bool
-    ensures { result ≡ member set kind.value }
-{
-    (set >> kind.value()) % 2 == 1
-}
-
-// A set and one kind more.
-fn with(set: u32, kind: Kind) -> u32
-    ensures { result ≡ with_kind set kind.value }
-{
-    set | 1 << kind.value()
+    after[at] = after[at].with(second);
 }

@@ -38,7 +38,7 @@ module _ {X : Type 0} (F : List X → Type 0) (kind : X → ℕ) (f : List X →
   done_most x true = omega arith
   done_most x false = omega arith
 
-  pub runs : (L : Ledger X) (xs : List X) → length L.done + length xs ≤ 999 → (M : Ledger X) × Runs F (Within kind no_counts) (counted no_counts) kind L (submits xs) (map answer (numbers f L xs)) M
+  pub runs : (L : Ledger X) (xs : List X) → length L.done + length xs ≤ 999 → (M : Ledger X) × Runs (record { forbids = F; can = Within kind no_counts; counts = counted no_counts; kind = kind }) L (submits xs) (map answer (numbers f L xs)) M
   runs L [] h = (L, end)
   runs L (x ∷ xs) h =
       let n = next_number f L x in

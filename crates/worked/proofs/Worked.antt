@@ -8,12 +8,11 @@ use Rattle.sheet.specs.Meaning.{Skips, Rounds, stop, round}
 use Rattle.sheet.specs.Forbid.{Forbids}
 use Rattle.sheet.specs.Rules.{accepted}
 use Rattle.sheet_file.specs.Sheets.{diagram_of, sheet_verdict}
-use Rattle.host.specs.Boards.{counted, Within}
 use Rattle.gate.specs.Words.{answer}
 use Rattle.gate.specs.Ledger.{opening}
 use Rattle.gate.proofs.Agreeing.{same_ledgers}
 use Rattle.worked.specs.Sheets.{sheet_7, sheet_8}
-use Rattle.worked.specs.Cases.{no_counts, Answers}
+use Rattle.worked.specs.Cases.{known_of, Answers}
 use Rattle.worked.proofs.Search.{found, found_right}
 use Rattle.worked.proofs.Ledgers.{numbers, runs}
 
@@ -23,7 +22,7 @@ answers b ds ns ok good short e =
     record {
       accepted = ok;
       answered = rw e all;
-      only = λ ws M r. (same_ledgers (Forbids (diagram_of b)) (Within signal no_counts) (Forbids (diagram_of b)) (Within signal no_counts) (counted no_counts) (counted no_counts) signal (λ l. (λ p. p, λ p. p)) (λ l. (λ p. p, λ p. p)) (λ k. refl) (opening false) M all.0 _ ws _ r all.1).0 ∙ ap (map answer) (sym e);
+      only = λ ws M r. (same_ledgers (known_of b) (known_of b) (λ l. (λ p. p, λ p. p)) (λ l. (λ p. p, λ p. p)) (λ k. refl) refl (opening false) M all.0 _ ws _ r all.1).0 ∙ ap (map answer) (sym e);
     }
 
 pub seven_forbids : Forbids (diagram_of sheet_7) []

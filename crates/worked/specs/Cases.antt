@@ -8,7 +8,7 @@ use Rattle.sheet.specs.Forbid.{Forbids}
 use Rattle.sheet_file.specs.Sheets.{diagram_of, sheet_verdict}
 use Rattle.host.specs.Boards.{counted, Within}
 use Rattle.gate.specs.Words.{Word, answer}
-use Rattle.gate.specs.Ledger.{Ledger, opening, Runs, submits}
+use Rattle.gate.specs.Ledger.{Ledger, Known, opening, Runs, submits}
 use Rattle.worked.specs.Sheets.{sheet_1, sheet_2, sheet_3, sheet_4, sheet_5, sheet_6, sheet_7, sheet_8}
 
 -- a deed to the partner 0: its signal and arguments
@@ -22,9 +22,13 @@ deed s = with_arguments s 0 0
 abbrev pub no_counts : List ℕ
 no_counts = replicate 32 0
 
--- a ledger that knows what the bytes' sheet forbids and what a new board can do, asked to do the deeds, replies so
+-- what a ledger knows of the bytes' sheet and a new board
+abbrev pub known_of : List ℕ → Known Deed
+known_of b = record { forbids = Forbids (diagram_of b); can = Within signal no_counts; counts = counted no_counts; kind = signal }
+
+-- such a ledger, asked to do the deeds, replies so
 abbrev pub Told : List ℕ → List Deed → List Word → Ledger Deed → Type 0
-Told b ds ws M = Runs (Forbids (diagram_of b)) (Within signal no_counts) (counted no_counts) signal (opening false) (submits ds) ws M
+Told b ds ws M = Runs (known_of b) (opening false) (submits ds) ws M
 
 -- the bytes are accepted, and the ledger answers the deeds by the numbers, and never otherwise
 pub record Answers (b : List ℕ) (ds : List Deed) (ns : List ℕ) : Type 0 where

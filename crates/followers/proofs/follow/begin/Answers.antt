@@ -1,9 +1,8 @@
-use Rattle.std.proofs.Common.{arith}
-use Rattle.sheet.proofs.Sound.{sound}
+use Rattle.std.proofs.Common.{◌∙◌, ap₂}
+use Rattle.followers.specs.Next.{Nexts}
+use Rattle.followers.specs.Followers.{enter_at}
+use Rattle.followers.proofs.Following.{same_place}
 use Rattle.followers.proofs.follow.begin.Goals as goal
 
-pub overflow_sub-sheet : goal.overflow_sub-sheet
-overflow_sub-sheet c = omega (arith, (sound c.args.sheet.now.diagram c.args.sheet.now.ok).some)
-
-pub enter-requires : goal.enter-requires
-enter-requires c = let g = sound c.args.sheet.now.diagram c.args.sheet.now.ok in record { sound = g; here = omega (arith, g.some) }
+pub returns : goal.returns
+returns c = c.enter.ensures ∙ ap₂ (λ (E : Nexts → Nexts) (K : Nexts). E K) (same_place enter_at c.whole.ensures.sheet c.whole.ensures.index) c.only_end-end.ensures

@@ -4,4 +4,4 @@ use Rattle.gate.proofs.Following.{chain_keeps}
 use Rattle.gate.proofs.laws.calls_keep.Goals as goal
 
 pub returns : goal.returns
-returns g c = λ before after qs ws all. chain_keeps (guarding g.W.Watch.forbids g.H.Host.can g.H.Host.counts g.H.Host.recorded g.H.Host.did g.W.Act.Action.kind) before (mix_chain all)
+returns g c = λ before after qs ws all. chain_keeps (guarding g.W.Watch g.H.Host g.W.Act.Action) before (mix_chain all)

@@ -5,4 +5,4 @@ use Rattle.gate.proofs.shortened.gates_leave_out.Goals as goal
 
 pub returns : goal.returns
 returns g c = λ before after qs ws p q rest vs all is fresh sub again.
-    gates_never_stop (guarding g.W.Watch.forbids g.H.Host.can g.H.Host.counts g.H.Host.recorded g.H.Host.did g.W.Act.Action.kind) (guarding g.V.Watch.forbids g.K.Host.can g.K.Host.counts g.K.Host.recorded g.K.Host.did g.W.Act.Action.kind) before (g.met.W.Watch.leaving before.watch) (mix_chain all) p is fresh rest sub (mix_chain again)
+    gates_never_stop (guarding g.W.Watch g.H.Host g.W.Act.Action) (guarding g.V.Watch g.K.Host g.W.Act.Action) before (g.met.W.Watch.leaving before.watch) (mix_chain all) p is fresh rest sub (mix_chain again)

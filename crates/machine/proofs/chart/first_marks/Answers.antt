@@ -6,11 +6,11 @@ use Rattle.followers.specs.Followers.{begin_of}
 use Rattle.machine.proofs.Started.{first_spread}
 use Rattle.machine.proofs.chart.first_marks.Goals as goal
 
-pub bounds-here-start : goal.bounds-here-start
-bounds-here-start c = let g = sound c.args.sheet.now.diagram c.args.sheet.now.ok in omega (arith, g.x_fits, g.y_fits)
+pub bounds-here-place : goal.bounds-here-place
+bounds-here-place c = let g = sound c.args.sheet.now.diagram c.args.sheet.now.ok in omega (arith, c.place.ensures, g.x_fits, g.y_fits)
 
 pub returns : goal.returns
 returns c =
     let d = c.args.sheet.now.diagram in
     let g = sound d c.args.sheet.now.ok in
-    first_spread d.start g.x_fits g.y_fits (nexts c.begin-next.result) (begin_of (fragment d) d.count) c.begin-next.ensures c.spread_all.new.marks c.spread_all.ensures
+    first_spread d.start g.x_fits g.y_fits c.place.result c.place.ensures (nexts c.begin-next.result) (begin_of (fragment d) d.count) c.begin-next.ensures c.spread_all.new.marks c.spread_all.ensures

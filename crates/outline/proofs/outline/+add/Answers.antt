@@ -1,13 +1,10 @@
 use Rattle.std.proofs.Common.{◌+◌, ◌++◌, vec_items, sym, ap, ◌∙◌, arith, rules}
 use Rattle.std.proofs.lemmas.Result.{IfOk-weaker}
 use Rattle.sheet.specs.Forbid.{fragment}
-use Rattle.sheet.proofs.Facts.{accepted_sizes, accepted_earlier}
+use Rattle.sheet.proofs.Facts.{accepted_earlier}
 use Rattle.outline.specs.Lines.{parts_at, lines_at}
 use Rattle.outline.proofs.Lists.{lines_is, two_earlier, two_parts, one_earlier, one_part, added_one, added_two}
 use Rattle.outline.proofs.outline.+add.Goals as goal
-
-pub bounds-sheet-i : goal.bounds-sheet-i
-bounds-sheet-i t c = let s = c.args.sheet.now in let q = accepted_sizes s.diagram s.ok in omega arith
 
 pub add-requires : goal.add-requires
 add-requires t c =

@@ -1,9 +1,9 @@
-use Rattle.std.proofs.Common.{arith}
-use Rattle.fault.proofs.Lowest.{total_none, total_more}
+use Rattle.std.proofs.Common.{◌^◌, rules, arith}
+use Rattle.std.proofs.lemmas.Iterator.{YieldsList-from_slice}
+use Rattle.std.proofs.lemmas.Iterator.Adapters.{fits_from_length, at_most_from_yields_List}
 use Rattle.sheet.proofs.checks.times_named.Goals as goal
 
-pub loop-i-init : goal.loop-i-init
-loop-i-init c = (total_none _, omega arith)
-
-pub loop-i-preserved : goal.loop-i-preserved
-loop-i-preserved c = (rw total_more (cc), omega arith)
+-- each fragment names a part at most twice
+pub sum-requires-clause-fits : goal.sum-requires-clause-fits
+sum-requires-clause-fits c =
+    fits_from_length _ _ (2 ^ 59) (2 ^ 64) (at_most_from_yields_List (YieldsList-from_slice c.args.fragments.now cc) (omega arith)) c.map.ensures.closure (omega arith) (λ x r q k. search rules)

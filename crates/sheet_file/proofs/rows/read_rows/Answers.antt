@@ -1,45 +1,45 @@
-use Rattle.std.proofs.Common.{◌≡◌, not, length, get_or, refl, arith, rules}
-use Rattle.std.proofs.lemmas.List.FromFn.{fill_by_all}
+use Rattle.std.proofs.Common.{◌≡◌, ℕ, ◌<◌, ◌≤◌, ◌/◌, length, length-append, arith, ◌∙◌}
+use Rattle.std.specs.Simd.{first_chunks}
+use Rattle.std.proofs.lemmas.Iterator.{YieldsList-from_slice, YieldsList-from_zip}
+use Rattle.std.proofs.lemmas.Iterator.Consumers.{YieldsList-from_enumerate, YieldsList-turn, YieldsList-end}
 use Rattle.std.proofs.lemmas.Result.{err_from_is_err_and}
-use Rattle.fault.specs.declared.fault.Fault.TheVariants.{FragmentRow}
-use Rattle.fault.proofs.Lowest.{lowest_none, lowest_more, refuse_found, refuse_passed}
-use Rattle.fault.proofs.Passed.{value_passed, value_stopped, stopped_value, passed_value, if_passed, if_stopped}
-use Rattle.sheet.specs.declared.diagram.Fragment.TheVariants.{Skip}
-use Rattle.sheet_file.specs.Rows.{row_fits, row_of, row_check, rows_check, fragment_of, fragment_at, fragments_of}
-use Rattle.sheet_file.proofs.Fills.{filled_none, filled_more}
+use Rattle.sheet_file.proofs.RowsRead.{read_none, read_more, read_stop, read_all, items_size, read_here}
 use Rattle.sheet_file.proofs.rows.read_rows.Goals as goal
 
+under : {m n : ℕ} → m < n → n ≤ 64 → m < 64
+under l h = omega arith
+
 pub loop-i-init : goal.loop-i-init
-loop-i-init c = (
-  lowest_none _,
-  refl,
-  λ k h. filled_none (λ j. fragment_of (get_or c.args.kinds.now j 0) (row_of c.args.rows.now j)) Skip 64 k h,
-)
+loop-i-init c = read_none c.args.kinds.now c.args.bytes.now
 
 pub loop-i-preserved : goal.loop-i-preserved
 loop-i-preserved c =
     let kinds = c.args.kinds.now in
-    let rows = c.args.rows.now in
-    let i = c.loop-i.i in
-    let q = value_passed (row_check i (get_or kinds i 0) (row_of rows i)) _ (fragment_of (get_or kinds i 0) (row_of rows i)) c.in_ok-fragments.ensures in (
-      lowest_more _ _ c.loop-i.invariant.0 (if_passed (FragmentRow i) _ q.0),
-      search rules,
-      filled_more (λ j. fragment_of (get_or kinds j 0) (row_of rows j)) Skip _ _ 64 _ c.loop-i.invariant.1 (omega arith) q.1 c.loop-i.invariant.2,
-    )
+    let bytes = c.args.bytes.now in
+    let count : length bytes / 8 ≡ length kinds = omega (arith, c.requires.eight) in
+    let few : length kinds ≤ 64 = c.requires.few in
+    let road = YieldsList-from_enumerate (YieldsList-from_zip (YieldsList-from_slice kinds (cc)) (YieldsList-from_slice (first_chunks 8 (length bytes / 8) bytes) (cc))) cc in
+    let turn = YieldsList-turn road c.loop-i.yielded c.loop-i.i-iterator c.loop-i.yielded_by c.next.result c.next.new.self (c.in-Some.i, (c.in-Some.kind, c.in-Some.row)) c.in-Some.is c.next.ensures.steps in
+    let h = read_here kinds bytes c.in-Some.i (length c.loop-i.yielded) (length bytes / 8) c.in-Some.kind.now c.in-Some.row.now count turn.0 turn.1 in
+    let below : length c.loop-i.yielded < 64 = under h.3 few in
+    read_more kinds bytes c.in-Some.i (length c.loop-i.yielded) c.in-Some.kind.now c.in-Some.row.now h.0 h.1 h.2 c.loop-i.fragments c.loop-i.invariant _ _ below c.in_ok-fragments.ensures (length-append c.loop-i.yielded _)
 
 pub returns-in_err-fragments : goal.returns-in_err-fragments
 returns-in_err-fragments c =
     let kinds = c.args.kinds.now in
-    let rows = c.args.rows.now in
-    let i = c.loop-i.i in
+    let bytes = c.args.bytes.now in
+    let count : length bytes / 8 ≡ length kinds = omega (arith, c.requires.eight) in
+    let road = YieldsList-from_enumerate (YieldsList-from_zip (YieldsList-from_slice kinds (cc)) (YieldsList-from_slice (first_chunks 8 (length bytes / 8) bytes) (cc))) cc in
+    let turn = YieldsList-turn road c.loop-i.yielded c.loop-i.i-iterator c.loop-i.yielded_by c.next.result c.next.new.self (c.in-Some.i, (c.in-Some.kind, c.in-Some.row)) c.in-Some.is c.next.ensures.steps in
+    let h = read_here kinds bytes c.in-Some.i (length c.loop-i.yielded) (length bytes / 8) c.in-Some.kind.now c.in-Some.row.now count turn.0 turn.1 in
     let p = err_from_is_err_and c.from_residual.result c.from_residual.ensures.1 in
-    let q = if_stopped (FragmentRow i) (not (row_fits (get_or kinds i 0) (row_of rows i))) _ (value_stopped (row_check i (get_or kinds i 0) (row_of rows i)) _ _ c.in_err-fragments.ensures) in
-    rw (p.1, p.2, ← q.1) (stopped_value (rows_check kinds rows) (fragments_of kinds rows) (FragmentRow i) (refuse_found (λ i. FragmentRow i) _ _ _ c.loop-i.invariant.0 q.0 c.loop-i-test.true))
+    rw (p.1, p.2) (read_stop kinds bytes c.in-Some.i (length c.loop-i.yielded) c.in-Some.kind.now c.in-Some.row.now h.0 h.1 h.2 c.loop-i.fragments c.loop-i.invariant _ h.3 c.in_err-fragments.ensures)
 
 pub returns : goal.returns
 returns c =
     let kinds = c.args.kinds.now in
-    let rows = c.args.rows.now in
-    let e : c.loop-i.i ≡ length kinds = omega arith in
-    let f : c.loop-i.fragments ≡ fragments_of kinds rows = fill_by_all (fragment_at kinds rows) c.loop-i.fragments 64 Skip c.loop-i.invariant.1 (λ k h. rw (← e) (c.loop-i.invariant.2 k h)) in
-    rw f (passed_value (rows_check kinds rows) (fragments_of kinds rows) (refuse_passed (λ i. FragmentRow i) _ _ _ c.loop-i.invariant.0 c.loop-i-test.false c.loop-i.auto.i-end))
+    let bytes = c.args.bytes.now in
+    let count : length bytes / 8 ≡ length kinds = omega (arith, c.requires.eight) in
+    let road = YieldsList-from_enumerate (YieldsList-from_zip (YieldsList-from_slice kinds (cc)) (YieldsList-from_slice (first_chunks 8 (length bytes / 8) bytes) (cc))) cc in
+    let end = YieldsList-end road c.loop-i.yielded c.loop-i.i-iterator c.loop-i.yielded_by c.next.result c.next.new.self c.in-None.is c.next.ensures.steps in
+    read_all kinds bytes c.loop-i.fragments (length c.loop-i.yielded) (end.1 ∙ items_size kinds bytes (length bytes / 8) count) c.loop-i.invariant

@@ -1,26 +1,34 @@
-use Rattle.std.proofs.Common.{◌≡◌, ℕ, ◌<◌, ◌≤◌, min, eqb, List, get_or, Some, None, arith, rules}
-use Rattle.std.proofs.lemmas.Bool.{eq-eqb, ne_eqb}
-use Rattle.fault.specs.Checks.{lowest}
-use Rattle.fault.proofs.Lowest.{lowest_none, lowest_more, lowest_at}
+use Rattle.std.proofs.Common.{inl, inr, ◌≡◌, ℕ, ◌<◌, min, Bool, eqb, List, length, take, get_or, Some, Option, sym, ap, ◌∙◌, arith, rules, tests, length-take, lt-ltb, le-ltb}
+use Rattle.std.specs.List.{find, position, position_or_len}
+use Rattle.std.proofs.lemmas.Iterator.{YieldsList-from_slice, YieldsList-from_take}
+use Rattle.std.proofs.lemmas.Iterator.Search.{find_from_yields_List}
+use Rattle.std.proofs.lemmas.List.{get_or-take}
+use Rattle.std.specs.Option.{option_map}
+use Rattle.std.proofs.lemmas.Bool.{cases_lt}
+use Rattle.std.proofs.lemmas.List.Folds.{find_at}
+use Rattle.std.proofs.lemmas.Option.{slice_get-get_or, slice_get_past}
+use Rattle.fault.proofs.Lowest.{lowest_in}
 use Rattle.translation.specs.declared.translation.Row.{Row}
 use Rattle.translation.specs.Tables.{row_of, blank}
 use Rattle.translation.proofs.translation.find_row.Goals as goal
 
-module _ (rows : List Row) (used k i n : ℕ) (q : n ≡ min used 64) (h : lowest (λ j. eqb (get_or rows j blank).code k) i ≡ None) where
-  found : (get_or rows i blank).code ≡ k → i < n → Some (get_or rows i blank) ≡ row_of rows used k
-  found e l = rw (← q, lowest_at (λ j. eqb (get_or rows j blank).code k) i n h (eq-eqb _ _ e) l)
+-- the first item that passes is the one at the first index at which one does
+at_first : {X : Type 0} (q : X → Bool) (xs : List X) (d : X) (f : ℕ → X) → ((i : ℕ) → i < length xs → get_or xs i d ≡ f i) → find q xs ≡ option_map f (position q xs)
+at_first q xs d f same =
+    elim (cases_lt (position_or_len q xs) (length xs)) [
+      | inl l ↦ rw (lt-ltb _ _ l) (find_at q xs ∙ (slice_get-get_or xs _ d l ∙ ap (λ x. Some x) (same _ l)))
+      | inr h ↦ rw (le-ltb _ _ h) (find_at q xs ∙ slice_get_past xs _ h)
+    ]
 
-  missing : n ≤ i → i ≤ n → None ≡ row_of rows used k
-  missing a b = let e : n ≡ i = omega arith in rw (← q, e, h)
-
-pub loop-i-init : goal.loop-i-init
-loop-i-init c = search (rules, lowest_none)
-
-pub loop-i-preserved : goal.loop-i-preserved
-loop-i-preserved c = lowest_more _ _ c.loop-i.invariant (ne_eqb _ _ c.if-row-code.false)
-
-pub returns-then-row-code : goal.returns-then-row-code
-returns-then-row-code c = found _ _ _ _ _ c.min-i-end.ensures c.loop-i.invariant c.if-row-code.true c.loop-i-test.true
+found : (rows : List Row) (used k : ℕ) (o : Option Row) → length rows ≡ 64 → o ≡ find (λ r. eqb r.code k) (take used rows) → o ≡ row_of rows used k
+found rows used k o n e =
+    let count : length (take used rows) ≡ min used 64 = length-take used rows ∙ grind arith in
+    let there : (i : ℕ) → i < length (take used rows) → get_or (take used rows) i blank ≡ get_or rows i blank = λ i l. get_or-take used rows i blank (omega (arith, count)) in
+    let same = lowest_in (λ i. eqb (get_or rows i blank).code k) (λ r. eqb r.code k) (take used rows) blank (λ i l. ap (λ (r : Row). eqb r.code k) (sym (there i l))) in
+    rw (← count, same) (e ∙ at_first (λ r. eqb r.code k) (take used rows) blank (λ i. get_or rows i blank) there)
 
 pub returns : goal.returns
-returns c = missing _ _ _ _ _ c.min-i-end.ensures c.loop-i.invariant c.loop-i-test.false c.loop-i.auto.i-end
+returns c =
+    let rows = c.args.rows.now in
+    let e = find_from_yields_List (λ (r : Row). eqb r.code c.args.code) _ _ _ c.find.ensures.ran (YieldsList-from_take c.args.used (YieldsList-from_slice rows cc) c.take.ensures.count) (λ x b q k. search (rules, tests)) in
+    found rows _ _ _ (search rules) (c.copied.ensures ∙ e)

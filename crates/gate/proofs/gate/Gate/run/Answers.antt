@@ -1,3 +1,4 @@
+use Rattle.gate.specs.Chains.{guarding, known}
 use Rattle.gate.proofs.Leaving.{rest_never_stops}
 use Rattle.gate.proofs.gate.Gate.run.Goals as goal
 
@@ -11,5 +12,5 @@ returns g c =
       ledger = e.ledger;
       decided = e.decided;
       carried = e.carried;
-      shortened = rest_never_stops (g.W.Watch.forbids c.args.self.now.watch) (g.H.Host.can c.args.self.now.host) (g.H.Host.counts c.args.self.now.host) g.W.Act.Action.kind (g.met.W.Watch.leaving c.args.self.now.watch) e.ledger;
+      shortened = rest_never_stops (known (guarding g.W.Watch g.H.Host g.W.Act.Action) c.args.self.now.watch c.args.self.now.host) (g.met.W.Watch.leaving c.args.self.now.watch) e.ledger;
     }

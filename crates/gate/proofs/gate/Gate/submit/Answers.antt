@@ -1,5 +1,5 @@
-use Rattle.std.proofs.Common.{sym, refl, ◌∙◌, arith, rules}
-use Rattle.std.proofs.lemmas.Bool.{false≢true}
+use Rattle.std.proofs.Common.{refl, arith, rules}
+use Rattle.std.proofs.lemmas.Bool.Decides.{not_from_Decides}
 use Rattle.gate.specs.Chains.{submit}
 use Rattle.gate.specs.Ledger.{is_stopped, is_barred, is_passed, is_done, is_declined, by_watch, by_host}
 use Rattle.gate.proofs.Links.{performed, declined}
@@ -27,7 +27,7 @@ returns-then-bars g c = submit (record {
 
 pub returns-in-Declined : goal.returns-in-Declined
 returns-in-Declined g c = submit (record {
-  says = by_host (is_passed refl c.if-self.false (λ p. false≢true (sym c.if-bars.false ∙ c.bars.ensures.1 p))) (is_declined refl (declined c.in-Declined.ensures).0);
+  says = by_host (is_passed refl c.if-self.false (not_from_Decides _ c.bars.ensures c.if-bars.false)) (is_declined refl (declined c.in-Declined.ensures).0);
   stop = refl;
   watch_on = λ z. absurd (omega arith);
   host_on = λ z. absurd (omega arith);
@@ -37,7 +37,7 @@ returns-in-Declined g c = submit (record {
 
 pub returns-in-Performed : goal.returns-in-Performed
 returns-in-Performed g c = submit (record {
-  says = by_host (is_passed refl c.if-self.false (λ p. false≢true (sym c.if-bars.false ∙ c.bars.ensures.1 p))) (is_done refl (performed c.in-Performed.ensures).0);
+  says = by_host (is_passed refl c.if-self.false (not_from_Decides _ c.bars.ensures c.if-bars.false)) (is_done refl (performed c.in-Performed.ensures).0);
   stop = refl;
   watch_on = λ _. search rules;
   host_on = λ _. (performed c.in-Performed.ensures).1;

@@ -1,0 +1,46 @@
+//! Numbers that cannot be above a highest one.
+ghost use Rattle.std.specs.Prelude.{◌≡◌, ◌+◌, ◌%◌, ◌≤◌};
+ghost use Rattle.action.specs.Ranges.{Ranged};
+
+use fault::fault::Fault;
+
+/// A number of at most `HIGHEST`.
+#[derive(Clone, Copy, Debug, PartialEq, Eq)]
+pub struct Bounded<const HIGHEST: u8> {
+    value: u8,
+    ghost low: { value ≤ HIGHEST },
+}
+
+/// This number, or refusal 13.
+impl<const HIGHEST: u8> TryFrom<u8> for Bounded<HIGHEST> {
+    type Error = Fault;
+
+    ghost try_from_gives = { λ v r. Ranged HIGHEST v (λ b. b.value) r };
+
+    fn try_from(value: u8) -> Result<Bounded<HIGHEST>, Fault> {
+        if value > HIGHEST {
+            return Err(Fault::OutOfRange);
+        }
+        Ok(Bounded { value })
+    }
+}
+
+impl<const HIGHEST: u8> Bounded<HIGHEST> {
+    /// The number.
+    // Stays: a name, and no `From`, which could not promise the bound too.
+    pub fn value(self) -> u8
+        ensures is { result ≡ self.entry.value }
+        ensures low { result ≤ HIGHEST }
+    {
+        self.value
+    }
+
+    // The one that a byte is read as.
+    // Stays: a name, and no `From`, since bytes above the highest become others.
+    pub(crate) fn of(byte: u8) -> Bounded<HIGHEST>
+        ensures { result.value ≡ byte % (HIGHEST + 1) }
+    {
+        let value = byte as u16 % (HIGHEST as u16 + 1);
+        Bounded { value: value as u8 }
+    }
+}

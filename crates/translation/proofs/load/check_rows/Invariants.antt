@@ -1,7 +1,0 @@
-use Rattle.std.proofs.Common.{◌≡◌, None}
-use Rattle.fault.specs.Checks.{lowest}
-use Rattle.translation.specs.Files.{row_wrong, four_of}
-use Rattle.translation.proofs.load.check_rows.Given as goal
-
-abbrev pub invariant-loop-i : goal.invariant-loop-i
-invariant-loop-i l = lowest (λ i. row_wrong (four_of l.rows i)) l.i ≡ None
