@@ -27,7 +27,7 @@ impl<const HIGHEST: u8> TryFrom<u8> for Bounded<HIGHEST> {
 
 impl<const HIGHEST: u8> Bounded<HIGHEST> {
     /// The number.
-    // Stays: a name, and no `From`, which could not promise the bound too.
+    // Stays: `kind.value() as usize` is plainer at an index than `usize::from(u8::from(kind))`.
     pub fn value(self) -> u8
         ensures is { result ≡ self.entry.value }
         ensures low { result ≤ HIGHEST }

@@ -18,7 +18,7 @@ pub const HIGHEST_ARGUMENT: u8 = 15;
 /// Whatever the fields hold is read as parts within the ranges.
 #[derive(Clone, Copy, Debug, PartialEq, Eq)]
 pub struct Deed {
-    // Stays: bytes and no `Bounded`, since definitions build deeds from any numbers and would owe a proof beside each.
+    // Stays: bytes and no `Bounded`: definitions speak of deeds of any numbers, each read as a part within its range.
     address: u8,
     signal: u8,
     first: u8,

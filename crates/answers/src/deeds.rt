@@ -20,7 +20,7 @@ fn submit_all(deeds: &[Deed]) -> [Ask<Deed>; MOST_DEEDS]
 {
     let mut asks = [Ask::Count(0); MOST_DEEDS];
     for (i, deed) in deeds.iter().enumerate() {
-        // Stays: written by its number, since no clause says what a slice holds after `iter_mut`.
+        // Stays: written by its number: where `iter_mut` is zipped with what is read, nothing is known of the slice afterwards.
         asks[i] = Ask::Submit(*deed);
     }
     asks

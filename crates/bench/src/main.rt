@@ -40,12 +40,10 @@ fn time<W: Watch + Drop>(
 ) -> anyhow::Result<usize> {
     let start = Instant::now(rt)?;
     let mut gate = Gate::open(watch, Spool::new(places));
-    let mut done = 0usize;
-    for a in actions {
-        if gate.submit(a) == Answer::Done {
-            done = done.saturating_add(1);
-        }
-    }
+    let done = actions
+        .iter()
+        .filter(|a| gate.submit(*a) == Answer::Done)
+        .count();
     let nanos = start.elapsed(rt)?.as_nanos() / (actions.len().max(1) as u128);
     let micros = nanos / 1000;
     let thousandths = nanos % 1000;

@@ -1,10 +1,11 @@
 //! The sheets that are timed, as their bytes.
 use std::alloc::{AllocError, Global};
+use std::iter;
 
 // A fragment as a sheet's bytes say it.
 #[derive(Clone, Copy)]
 struct Fragment {
-    // Stays: bytes, as a file has them, since files are what is loaded.
+    // Stays: bytes: a step in one row is shorter than its guard and change in words.
     kind: u8,
     row: [u8; 8],
 }
@@ -52,12 +53,8 @@ fn any_step(i: usize) -> [u8; 8] {
 
 // The alts that join the steps 0 to 30.
 fn add_alts(fragments: &mut Vec<Fragment>) -> Result<(), AllocError> {
-    // Stays: the numbers themselves are what is written.
-    for i in 31..61u8 {
-        let left = if i == 31 { 0 } else { i - 1 };
-        fragments.push(over(3, left, i - 30))?;
-    }
-    Ok(())
+    let lefts = iter::once(0).chain(31..60u8);
+    fragments.extend(lefts.zip(1..31u8).map(|(left, right)| over(3, left, right)))
 }
 
 /// 31 steps of one signal, with comparisons and changes of every kind, in a loop of alts.
@@ -71,7 +68,7 @@ pub(crate) fn worst(heap: Global) -> Result<Vec<u8>, AllocError> {
 
 // Five rules of four fragments.
 fn add_rules(fragments: &mut Vec<Fragment>) -> Result<(), AllocError> {
-    // Stays: as in `add_alts`.
+    // Stays: each rule's fragments go by its number, which also says where they stand.
     for k in 0..5u8 {
         let at = 4 * k;
         fragments.extend_from_slice(&[

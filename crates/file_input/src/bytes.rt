@@ -11,7 +11,7 @@ fn fill<F: Read>(file: &mut F, buffer: &mut [u8]) -> io::Result<usize>
     ensures { IfOk result (λ n. n ≤ length buffer.old) }
 {
     let mut filled = 0;
-    // Stays: `read_to_end` has one error for want of memory and for a failing file, and only the latter counts as empty.
+    // Stays: an error of `read_to_end` may be want of memory, which is passed on, or the file's own, which counts as empty.
     while filled < buffer.len() {
         let n = file.read(&mut buffer[filled..])?;
         if n == 0 {

@@ -18,7 +18,7 @@ pub const SHEET_BYTES: usize = 581;
 pub const RUN_BYTES: usize = 24003;
 
 /// Reads the sheet file `rule.sht` of a folder, as far as a sheet can reach and one byte more.
-// Stays: two names for two files; what they share is `front`.
+// Stays: two names for two files; what they share is `front`, and `rt` goes with every call that reads.
 pub fn rule_bytes<R: Files + AllocGlobal>(rt: &R, folder: &str) -> Result<Vec<u8>, AllocError>
     ensures { IfOk result (λ bytes. vec_len bytes ≤ 581) }
 {

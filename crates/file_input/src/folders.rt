@@ -18,6 +18,7 @@ pub fn folders<R: Env + AllocGlobal>(rt: &R) -> anyhow::Result<Vec<String>> {
 }
 
 /// A program that gives an account of each folder.
+// Stays: a trait and no closure: who takes a closure asks that it may be called, and calls of libraries ask nothing.
 pub trait Program {
     fn account(&self, rt: &HostRuntime, folder: &str) -> anyhow::Result<()>;
 }

@@ -47,7 +47,7 @@ impl Targets {
 }
 
 /// What may come next, unmarked and marked.
-// Stays: no generic pair with `Marks`: a run's marks are combined there, and here those of each target of a set.
+// Stays: a pair generic with `Marks` would share two operations alone: `after` takes `Marks`, of another type.
 #[derive(Clone, Copy)]
 pub struct NextSet {
     pub plain: Targets,

@@ -16,7 +16,7 @@ pub enum Answer {
 
 impl Answer {
     /// The number of the answer.
-    // Stays: a name, and no `From`, which would not say what the number is.
+    // Stays: `answer.number()` says which number is meant, and `u8::from(answer)` would not.
     pub fn number(self) -> u8
         ensures { result ≡ number_of self }
     {

@@ -2,7 +2,7 @@ use crate::answer::Answer;
 use fault::fault::Fault;
 
 /// One thing asked of a gate.
-#[derive(Clone, Copy)]
+#[derive(Clone, Copy, Debug, PartialEq, Eq)]
 pub enum Ask<T> {
     /// Do this action.
     Submit(T),
@@ -13,7 +13,7 @@ pub enum Ask<T> {
 }
 
 /// What a gate replies to one.
-#[derive(Clone, Copy)]
+#[derive(Clone, Copy, Debug, PartialEq, Eq)]
 pub enum Reply {
     /// To a submitted action, or to a query.
     Answered(Answer),

@@ -89,7 +89,7 @@ impl<W: Watch, H: Host<Act = W::Act>> Gate<W, H> {
     }
 
     /// Replies to each of `asks` in turn, as long as there is a place for the reply; says to how many.
-    // Stays: each part of the promise is a clause with its name, at every call that keeps it.
+    // Stays: six clauses, since those who rest on them cite each by its name; `run` and the calls over what is lent promise them again.
     pub fn serve(&mut self, asks: &[Ask<W::Act>], replies: &mut [Reply]) -> usize
         ensures many { result ≡ min (length asks.now) (length replies.old) }
         ensures later { drop result replies.new ≡ drop result replies.old }
@@ -100,7 +100,7 @@ impl<W: Watch, H: Host<Act = W::Act>> Gate<W, H> {
     {
         let many = asks.len().min(replies.len());
         for (i, ask) in asks[..many].iter().enumerate() {
-            // Stays: written by its number, since no clause says what a slice holds after `iter_mut`.
+            // Stays: written by its number: where `iter_mut` is zipped with what is read, nothing is known of the slice afterwards.
             replies[i] = self.reply(ask);
         }
         many

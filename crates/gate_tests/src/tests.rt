@@ -17,6 +17,7 @@ fn deed(signal: u8) -> Result<Deed, Fault> {
 }
 
 // The number of a reply to an action; 100 and the count, or 200 and the number of its refusal.
+// Stays: numbers, which are what is promised of answers and refusals.
 fn number(reply: Reply) -> u64 {
     match reply {
         Reply::Answered(a) => a.number() as u64,

@@ -12,7 +12,7 @@ pub enum Outcome {
 
 impl Outcome {
     /// The number of the outcome.
-    // Stays: a name, and no `From`, which would not say what the number is.
+    // Stays: `outcome.number()` says which number is meant, and `u8::from(outcome)` would not.
     pub fn number(self) -> u8
         ensures { result ≡ number_of self }
     {

@@ -37,7 +37,7 @@ impl<'a, T: Action> Spool<'a, T> {
     }
 }
 
-// Puts an action into a place.
+// Stays: a rule of the project: a spool hands the places that it was lent to functions.
 fn put<T: Action>(places: &mut [T], at: usize, a: T)
     requires { at < length places.old }
     ensures { places.new ≡ slice_set places.old at a }

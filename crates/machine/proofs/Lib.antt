@@ -1,4 +1,3 @@
-pub mod Arrays
 pub mod Carried
 pub mod Places
 pub mod Steps

@@ -75,6 +75,7 @@ pub(crate) fn spread(reached: &[u8; 256], q: usize, next: Marks, marks: &mut [u8
         return;
     }
     for (i, b) in reached.iter().enumerate() {
+        // Stays: written by its number, as where `iter_mut` is zipped nothing is known of the slice afterwards.
         marks[q * 256 + i] |= carry(*b, next);
     }
 }

@@ -26,6 +26,7 @@ fn call(family: u8, form: u8) -> Result<Call, Fault> {
 
 // How many actions come before the first that is barred; those are noted.
 fn passed<W: Watch>(watch: &mut W, list: &[W::Act]) -> usize {
+    // Stays: no `position`, since each action that passes is noted before the next is judged.
     for (i, action) in list.iter().enumerate() {
         if watch.bars(action) {
             return i;
@@ -104,6 +105,7 @@ fn refused_loads(rt: HostRuntime) {
 }
 
 // The number and the place of a refused order, or how many signals come before the first that is barred.
+// Stays: numbers, as in `told`.
 fn ordered(pairs: &[(u8, u8)], signals: &[u8; 4]) -> Result<(u8, usize), Fault> {
     let list = [
         deed(0, signals[0])?,

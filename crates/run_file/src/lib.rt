@@ -67,7 +67,7 @@ impl<'a> Run<'a> {
         ensures { out.new ≡ map deed_in (zip self.now.heads.now self.now.arguments.now) ++ drop (length self.now.arguments.now) out.old }
     {
         for (i, (head, arguments)) in self.heads.iter().zip(self.arguments).enumerate() {
-            // Stays: written by its number, since no clause says what a slice holds after `iter_mut`.
+            // Stays: written by its number: where `iter_mut` is zipped with what is read, nothing is known of the slice afterwards.
             out[i] = read_deed(head, *arguments);
         }
     }

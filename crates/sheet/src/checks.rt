@@ -133,7 +133,7 @@ fn count_steps(fragments: &[Fragment]) -> usize
 }
 
 impl Headed<'_> {
-    // Stays: one function for this and `check_tree` would take the refusal as a closure, and be longer than both.
+    // Stays: a `match` shows both outcomes; `.map(Fault::FragmentRow).map_or(Ok(()), Err)` hides which is which.
     pub(crate) fn check_ranges(&self) -> Result<(), Fault>
         ensures { result ≡ ranges_check self.now.diagram.now }
     {

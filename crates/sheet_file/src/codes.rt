@@ -6,7 +6,7 @@ ghost use Rattle.sheet_file.specs.Codes.{term as term_of, comparison as comparis
 use action::deed::HIGHEST_ARGUMENT;
 use sheet::step::{Change, Comparison, Guard, Term, Variable};
 
-// Stays: codes are bytes of the file; `TryFrom<u8>` would stand with the types, which know of no file.
+// Stays: functions, since a type of another crate gets no `TryFrom` here.
 fn term(code: u8) -> Option<Term>
     ensures { result ≡ (if nat_le code 19 then Some (term_of code) else None) }
 {

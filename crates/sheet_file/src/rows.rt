@@ -19,7 +19,7 @@ fn first_unknown(kinds: &[u8]) -> Option<usize>
     kinds.iter().position(|kind| *kind > HIGHEST_FRAGMENT)
 }
 
-// Stays: a kind is the byte of the file, since all are judged before the first row, and a library has no memory to keep more.
+// Stays: kinds are judged before any row, and an enum of them would be matched once, in `read_fragment`, as the bytes are.
 pub(crate) fn check_kinds(kinds: &[u8]) -> Result<(), Fault>
     ensures { result ≡ kinds_check kinds.now }
 {
@@ -98,7 +98,7 @@ pub(crate) fn read_rows(kinds: &[u8], bytes: &[u8]) -> Result<[Fragment; 64], Fa
     let (rows, _) = bytes.as_chunks();
     let mut fragments = [Fragment::Skip; 64];
     for (i, (kind, row)) in kinds.iter().zip(rows).enumerate() {
-        // Stays: written by its number, since no clause says what a slice holds after `iter_mut`.
+        // Stays: written by its number: where `iter_mut` is zipped with what is read, nothing is known of the slice afterwards.
         fragments[i] = read_row(i, *kind, row)?;
     }
     Ok(fragments)

@@ -33,6 +33,7 @@ pub fn rehearse(watch: &mut SheetWatch, deeds: &[Deed]) -> usize
     };
     let saved = *marks;
     let guard = Rehearsal { marks, saved };
+    // Stays: no `position`, since each deed changes the marks by which the next is judged.
     for (i, d) in deeds.iter().enumerate() {
         let old = *guard.marks;
         if chart.advance(&old, *d, guard.marks) {

@@ -97,10 +97,7 @@ impl Case<'_> {
 
     // Whether a reply is the answer that the rules ask for to the deed k.
     fn reply_agrees(&self, reply: &Reply, k: usize) -> bool {
-        match reply {
-            Reply::Answered(answer) => *answer == self.asked_for(k),
-            Reply::Counted(_) => false,
-        }
+        *reply == Reply::Answered(self.asked_for(k))
     }
 
     // The list as a run file, each deed asked about and submitted at a gate: two replies for each deed.

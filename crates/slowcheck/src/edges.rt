@@ -22,6 +22,7 @@ pub struct Tall {
 }
 
 impl Tall {
+    // Stays: bytes, since a sheet of 65 fragments fits no `Diagram`.
     fn kind(&self, i: u8) -> u8 {
         if i < self.steps {
             1

@@ -82,9 +82,7 @@ pub fn encode(heap: Global, d: &Diagram) -> Result<Vec<u8>, AllocError> {
     let header = [low_byte(d.count), low_byte(d.steps), d.start.x, d.start.y];
     let mut bytes = Vec::new(heap);
     bytes.extend_from_slice(&header)?;
-    for f in d.fragments.iter().take(d.count) {
-        bytes.push(kind(f))?;
-    }
+    bytes.extend(d.fragments.iter().take(d.count).map(kind))?;
     add_rows(&mut bytes, &d.fragments, d.count)?;
     Ok(bytes)
 }

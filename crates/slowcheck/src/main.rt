@@ -161,7 +161,7 @@ fn drawn_sheets(
         rt,
         random: Random::new(1),
         lists,
-        tally: Tally::new(),
+        tally: Tally::default(),
     };
     for _ in 0..sheets {
         let d = diagram(rt.alloc(), &mut trials.random, fragments)?;
@@ -181,7 +181,7 @@ fn damaged_sheets(rt: &HostRuntime, sheets: usize) -> anyhow::Result<()> {
         rt,
         random: Random::new(2),
         lists: Lists { most: 6 },
-        tally: Tally::new(),
+        tally: Tally::default(),
     };
     for _ in 0..sheets {
         let drawn = diagram(rt.alloc(), &mut trials.random, 9)?;
@@ -200,7 +200,7 @@ fn tall_sheets(rt: &HostRuntime) -> anyhow::Result<()> {
         rt,
         random: Random::new(3),
         lists: Lists { most: 6 },
-        tally: Tally::new(),
+        tally: Tally::default(),
     };
     let refused = Err(Fault::SheetHeader);
     trials.tall(
@@ -231,19 +231,19 @@ fn tall_sheets(rt: &HostRuntime) -> anyhow::Result<()> {
 // So many run files: are they loaded or refused alike, and is the list that is lent filled as it has to be?
 fn drawn_runs(rt: &HostRuntime, files: usize) -> anyhow::Result<()> {
     let mut random = Random::new(4);
-    let mut tally = RunTally::new();
+    let mut tally = RunTally::default();
     for _ in 0..files {
         let bytes = runs::run(rt.alloc(), &mut random)?;
-        let (found, filled) = runs::load(bytes.as_slice());
+        let loaded = runs::load(bytes.as_slice());
         let asked = run_verdict(bytes.as_slice());
-        if found != asked || !filled {
+        if loaded.verdict != asked || !loaded.filled {
             let difference = Difference {
                 what: "loader of runs",
                 file: bytes.as_slice(),
             };
-            return difference.tell_verdict(rt, found, asked);
+            return difference.tell_verdict(rt, loaded.verdict, asked);
         }
-        tally.run(found);
+        tally.run(loaded.verdict);
     }
     eprintln!(rt; "run files: {files}")?;
     Ok(tally.print(rt)?)

@@ -21,6 +21,7 @@ impl Random {
     }
 
     /// A number below `end`.
+    // Stays: `byte_below(8)` is plainer than a call that makes a number above 0 of the 8.
     pub fn below(&mut self, end: usize) -> usize
         requires { 0 < end }
         ensures { result < end }

@@ -10,7 +10,7 @@ use std::alloc::{AllocError, Global};
 use std::io;
 
 /// What the runs came to.
-#[derive(Drop)]
+#[derive(Default, Drop)]
 pub struct RunTally {
     accepted: Count,
     byte: Count,
@@ -18,15 +18,6 @@ pub struct RunTally {
 }
 
 impl RunTally {
-    pub(crate) fn new() -> RunTally {
-        let none = Count::none();
-        RunTally {
-            accepted: none,
-            byte: none,
-            shape: none,
-        }
-    }
-
     /// A run that was accepted or refused.
     pub(crate) fn run(&mut self, verdict: Result<(), Fault>) {
         match verdict {
@@ -97,8 +88,16 @@ fn deed_agrees(bytes: &[u8], n: usize, i: usize, deed: &Deed) -> bool {
         && deed.second() == arguments % 16
 }
 
-/// Whether the loader accepts or refuses the run; and whether the lent list holds the deeds and after them what it held.
-pub(crate) fn load(bytes: &[u8]) -> (Result<(), Fault>, bool) {
+/// What the loader made of a run.
+#[derive(Drop)]
+pub(crate) struct Loaded {
+    /// Whether it accepts the run or refuses it.
+    pub(crate) verdict: Result<(), Fault>,
+    /// Whether the lent list holds the deeds, and after them what it held.
+    pub(crate) filled: bool,
+}
+
+pub(crate) fn load(bytes: &[u8]) -> Loaded {
     let held = Deed::reading(7, 31, 15, 15);
     let mut deeds = [held; MOST_DEEDS];
     let loaded = load_run(bytes, &mut deeds);
@@ -111,5 +110,8 @@ pub(crate) fn load(bytes: &[u8]) -> (Result<(), Fault>, bool) {
                 *deed == held
             }
         });
-    (loaded.map(|_| ()), filled)
+    Loaded {
+        verdict: loaded.map(|_| ()),
+        filled,
+    }
 }

@@ -4,14 +4,10 @@ use fault::fault::Fault;
 use std::{fmt, io};
 
 /// A count that cannot overflow.
-#[derive(Clone, Copy)]
+#[derive(Clone, Copy, Default)]
 pub struct Count(u64);
 
 impl Count {
-    pub fn none() -> Count {
-        Count(0)
-    }
-
     pub fn add(&mut self) {
         self.0 = self.0.saturating_add(1);
     }
@@ -24,7 +20,7 @@ impl fmt::Display for Count {
 }
 
 /// What the sheets and lists came to.
-#[derive(Drop)]
+#[derive(Default, Drop)]
 pub struct Tally {
     accepted: Count,
     // By the number of the refusal.
@@ -40,22 +36,6 @@ pub struct Tally {
 }
 
 impl Tally {
-    pub fn new() -> Tally {
-        let none = Count::none();
-        Tally {
-            accepted: none,
-            refused: [none; 9],
-            lists: none,
-            forbidden: none,
-            not_forbidden: none,
-            negative: none,
-            not_negative: none,
-            done: none,
-            barred: none,
-            stopped: none,
-        }
-    }
-
     /// A sheet that was accepted or refused.
     pub fn sheet(&mut self, verdict: Result<(), Fault>) {
         match verdict {

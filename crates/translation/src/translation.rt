@@ -14,7 +14,7 @@ pub const HIGHEST_SELECTOR: u8 = 3;
 // Whatever the fields hold is read as parts within the ranges.
 #[derive(Clone, Copy)]
 pub(crate) struct Row {
-    // Stays: bytes, as in a deed, read as parts within the ranges.
+    // Stays: bytes, as in a deed.
     pub(crate) code: u8,
     pub(crate) address: u8,
     pub(crate) signal: u8,

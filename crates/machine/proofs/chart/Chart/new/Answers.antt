@@ -9,7 +9,7 @@ use Rattle.followers.specs.Words.{nexts}
 use Rattle.followers.proofs.Words.{none_next}
 use Rattle.followers.proofs.Following.{past_out}
 use Rattle.machine.specs.Charts.{no_set}
-use Rattle.machine.proofs.Arrays.{made}
+use Rattle.action.proofs.Arrays.{made}
 use Rattle.machine.proofs.chart.Chart.new.Goals as goal
 
 pub returns-clause-kinds : goal.returns-clause-kinds
