@@ -2,13 +2,28 @@
 ghost use Rattle.std.specs.Prelude.{◌≡◌, ◌+◌, ◌%◌, ◌≤◌};
 ghost use Rattle.action.specs.Ranges.{Ranged};
 
+use crate::kind::HIGHEST_KIND;
+use crate::partner::HIGHEST_PARTNER;
 use fault::fault::Fault;
+use std::fmt;
 
 /// A number of at most `HIGHEST`.
-#[derive(Clone, Copy, Debug, PartialEq, Eq)]
+#[derive(Clone, Copy, PartialEq, Eq)]
 pub struct Bounded<const HIGHEST: u8> {
     value: u8,
     ghost low: { value ≤ HIGHEST },
+}
+
+// Stays: no derive, which would call a kind and a partner by the name of what they share.
+impl<const HIGHEST: u8> fmt::Debug for Bounded<HIGHEST> {
+    fn fmt<W: fmt::Write>(&self, f: &mut fmt::Formatter<W>) -> fmt::Result {
+        let name = match HIGHEST {
+            HIGHEST_KIND => "Kind",
+            HIGHEST_PARTNER => "Partner",
+            _ => "Bounded",
+        };
+        f.debug_struct(name).field("value", &self.value).finish()
+    }
 }
 
 /// This number, or refusal 13.

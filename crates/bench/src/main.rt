@@ -15,6 +15,7 @@ use host::spool::Spool;
 use sheet::sheet::Sheet;
 use sheet_file::load::load_sheet;
 use sheet_watch::watching::SheetWatch;
+use std::array;
 use std::time::Instant;
 use translation::load::load_translation;
 use translation::translated::Translated;
@@ -40,10 +41,13 @@ fn time<W: Watch + Drop>(
 ) -> anyhow::Result<usize> {
     let start = Instant::now(rt)?;
     let mut gate = Gate::open(watch, Spool::new(places));
-    let done = actions
-        .iter()
-        .filter(|a| gate.submit(*a) == Answer::Done)
-        .count();
+    let mut done = 0usize;
+    // Stays: no `filter` and `count`, with which a deed under the ordinary sheet takes a tenth longer.
+    for a in actions {
+        if gate.submit(a) == Answer::Done {
+            done = done.saturating_add(1);
+        }
+    }
     let nanos = start.elapsed(rt)?.as_nanos() / (actions.len().max(1) as u128);
     let micros = nanos / 1000;
     let thousandths = nanos % 1000;
@@ -83,65 +87,79 @@ const FORMS: [u8; 41] = [
     5, 1, 2, 0, 6, 1, 2, 0, 7, 1, 2,
 ];
 
-fn time_deeds(rt: &HostRuntime) -> anyhow::Result<()> {
-    let heap = rt.alloc();
-    let mut places = vec![in heap; Deed::reading(0, 0, 0, 0); YEAR]?;
-    let sheet = load(worst(heap)?.as_slice())?;
-    let deeds: Vec<Deed> = (0..YEAR).map(worst_deed).collect(heap)?;
+// Stays: arrays and no `Vec`, here and where they are timed: what needs nothing from the heap cannot fail for want of it.
+fn worst_deeds() -> [Deed; YEAR] {
+    array::from_fn(worst_deed)
+}
+
+fn ordinary_deeds() -> [Deed; YEAR] {
+    array::from_fn(ordinary_deed)
+}
+
+fn ordinary_calls() -> anyhow::Result<[Call; YEAR]> {
+    let mut calls = [ordinary_call(0)?; YEAR];
+    for (i, call) in calls.iter_mut().enumerate() {
+        *call = ordinary_call(i)?;
+    }
+    Ok(calls)
+}
+
+fn time_worst(rt: &HostRuntime) -> anyhow::Result<()> {
+    let mut places = [Deed::reading(0, 0, 0, 0); YEAR];
+    let sheet = load(&worst())?;
+    let deeds = worst_deeds();
     let done = time(
         rt,
         "31 steps of one signal, a year",
         SheetWatch::new(&sheet),
-        deeds.as_slice(),
-        places.as_mut_slice(),
+        &deeds,
+        &mut places,
     )?;
     println!(rt; "31 steps of one signal: {done} deeds done")?;
-    let sheet = load(ordinary(heap)?.as_slice())?;
-    let deeds: Vec<Deed> = (0..YEAR).map(ordinary_deed).collect(heap)?;
+    Ok(())
+}
+
+fn time_ordinary(rt: &HostRuntime) -> anyhow::Result<()> {
+    let mut places = [Deed::reading(0, 0, 0, 0); YEAR];
+    let sheet = load(&ordinary())?;
+    let deeds = ordinary_deeds();
     let done = time(
         rt,
         "an ordinary sheet, a year",
         SheetWatch::new(&sheet),
-        deeds.as_slice(),
-        places.as_mut_slice(),
+        &deeds,
+        &mut places,
     )?;
     println!(rt; "an ordinary sheet: {done} deeds done")?;
-    let deeds: Vec<Deed> = (0..WEEK).map(ordinary_deed).collect(heap)?;
     let done = time(
         rt,
         "an ordinary sheet, a week",
         SheetWatch::new(&sheet),
-        deeds.as_slice(),
-        places.as_mut_slice(),
+        &deeds[0..WEEK],
+        &mut places,
     )?;
     println!(rt; "an ordinary sheet: {done} deeds done")?;
     Ok(())
 }
 
 fn time_calls(rt: &HostRuntime) -> anyhow::Result<()> {
-    let heap = rt.alloc();
-    let calls: Vec<Call> = (0..YEAR).map(ordinary_call).try_collect(heap)?;
-    let mut places = calls.clone()?;
-    let sheet = load(ordinary(heap)?.as_slice())?;
+    let calls = ordinary_calls()?;
+    let mut places = calls;
+    let sheet = load(&ordinary())?;
     let mut table = Translation::none();
     load_translation(&FORMS, &mut table).map_err(|_| anyhow!("the translation is refused"))?;
     let partner = Partner::try_from(0).map_err(|_| anyhow!("the partner is refused"))?;
     let cap = Cap::new(31, 65535).map_err(|_| anyhow!("the cap is refused"))?;
     let narrowed = Narrowed::new(SheetWatch::new(&sheet), partner);
     let pile = Translated::new(Pair::new(narrowed, cap), table);
-    let done = time(
-        rt,
-        "a pile over calls, a year",
-        pile,
-        calls.as_slice(),
-        places.as_mut_slice(),
-    )?;
+    let done = time(rt, "a pile over calls, a year", pile, &calls, &mut places)?;
     println!(rt; "a pile over calls: {done} calls done")?;
     Ok(())
 }
 
 fn run(rt: &HostRuntime) -> anyhow::Result<()> {
-    time_deeds(rt)?;
+    time_worst(rt)?;
+    time_ordinary(rt)?;
     time_calls(rt)
 }
 

@@ -1,35 +1,13 @@
 //! The sheets that are timed, as their bytes.
-use std::alloc::{AllocError, Global};
-use std::iter;
 
-// A fragment as a sheet's bytes say it.
-#[derive(Clone, Copy)]
-struct Fragment {
-    // Stays: bytes: a step in one row is shorter than its guard and change in words.
-    kind: u8,
-    row: [u8; 8],
-}
-
-// A sheet of so many steps, from starts of 0.
-fn encoded(heap: Global, steps: u8, fragments: &[Fragment]) -> Result<Vec<u8>, AllocError> {
-    let mut bytes = Vec::new(heap);
-    bytes.extend_from_slice(&[(fragments.len() % 256) as u8, steps, 0, 0])?;
-    bytes.extend(fragments.iter().map(|f| f.kind))?;
-    for f in fragments {
-        bytes.extend_from_slice(&f.row)?;
-    }
-    Ok(bytes)
-}
-
-fn step(row: [u8; 8]) -> Fragment {
-    Fragment { kind: 1, row }
-}
-
-// A fragment that names two parts, or one and 0.
-fn over(kind: u8, left: u8, right: u8) -> Fragment {
-    Fragment {
-        kind,
-        row: [left, right, 0, 0, 0, 0, 0, 0],
+// The kind and the row of fragment i of n, where there is room for n.
+// Stays: arrays, filled by number, and bytes for kinds and rows, here and below: a `Vec` of fragments asks the heap for memory.
+fn put(bytes: &mut [u8], n: usize, i: usize, kind: u8, row: [u8; 8]) {
+    if i < n && n <= 64 && 4 + 9 * n <= bytes.len() {
+        bytes[4 + i] = kind;
+        for j in 0..8 {
+            bytes[4 + n + 8 * i + j] = row[j];
+        }
     }
 }
 
@@ -51,45 +29,59 @@ fn any_step(i: usize) -> [u8; 8] {
     [0, 5, left, comparison, right, target, source, add]
 }
 
-// The alts that join the steps 0 to 30.
-fn add_alts(fragments: &mut Vec<Fragment>) -> Result<(), AllocError> {
-    let lefts = iter::once(0).chain(31..60u8);
-    fragments.extend(lefts.zip(1..31u8).map(|(left, right)| over(3, left, right)))
+fn put_worst(b: &mut [u8]) {
+    let n = 62;
+    for i in 0..31 {
+        put(b, n, i, 1, any_step(i));
+    }
+    for i in 31..61 {
+        let left = if i == 31 { 0 } else { i as u8 - 1 };
+        put(b, n, i, 3, [left, i as u8 - 30, 0, 0, 0, 0, 0, 0]);
+    }
+    put(b, n, 61, 4, [60, 0, 0, 0, 0, 0, 0, 0]);
 }
 
 /// 31 steps of one signal, with comparisons and changes of every kind, in a loop of alts.
-pub(crate) fn worst(heap: Global) -> Result<Vec<u8>, AllocError> {
-    let mut fragments = Vec::new(heap);
-    fragments.extend((0..31).map(|i| step(any_step(i))))?;
-    add_alts(&mut fragments)?;
-    fragments.push(over(4, 60, 0))?;
-    encoded(heap, 31, fragments.as_slice())
+pub(crate) fn worst() -> [u8; 562] {
+    let mut b = [0; 562];
+    b[0] = 62;
+    b[1] = 31;
+    put_worst(&mut b);
+    b
 }
 
-// Five rules of four fragments.
-fn add_rules(fragments: &mut Vec<Fragment>) -> Result<(), AllocError> {
-    // Stays: each rule's fragments go by its number, which also says where they stand.
-    for k in 0..5u8 {
-        let at = 4 * k;
-        fragments.extend_from_slice(&[
-            step([0, 2 * k, 0, 0, 0, 1, 18, 0]),
-            step([0, 2 * k + 1, 18, 1, 16, 0, 0, 0]),
-            over(5, at + 1, 0),
-            over(2, at, at + 2),
-        ])?;
+// One rule of four fragments, the k-th.
+fn put_rule(b: &mut [u8], k: u8) {
+    let k = k % 5;
+    let at = 4 * k;
+    let i = at as usize;
+    put(b, 24, i, 1, [0, 2 * k, 0, 0, 0, 1, 18, 0]);
+    put(b, 24, i + 1, 1, [0, 2 * k + 1, 18, 1, 16, 0, 0, 0]);
+    put(b, 24, i + 2, 5, [at + 1, 0, 0, 0, 0, 0, 0, 0]);
+    put(b, 24, i + 3, 2, [at, at + 2, 0, 0, 0, 0, 0, 0]);
+}
+
+fn put_ordinary(b: &mut [u8]) {
+    for k in 0..5 {
+        put_rule(b, k);
     }
-    Ok(())
+    for i in 20..24u8 {
+        let left = if i == 20 { 3 } else { i - 1 };
+        put(
+            b,
+            24,
+            i as usize,
+            3,
+            [left, 4 * (i - 20) + 7, 0, 0, 0, 0, 0, 0],
+        );
+    }
 }
 
 /// Ten steps: five rules, each of which remembers an argument of one signal and forbids another signal with that argument.
-pub(crate) fn ordinary(heap: Global) -> Result<Vec<u8>, AllocError> {
-    let mut fragments = Vec::new(heap);
-    add_rules(&mut fragments)?;
-    fragments.extend_from_slice(&[
-        over(3, 3, 7),
-        over(3, 20, 11),
-        over(3, 21, 15),
-        over(3, 22, 19),
-    ])?;
-    encoded(heap, 10, fragments.as_slice())
+pub(crate) fn ordinary() -> [u8; 220] {
+    let mut b = [0; 220];
+    b[0] = 24;
+    b[1] = 10;
+    put_ordinary(&mut b);
+    b
 }

@@ -1,7 +1,6 @@
-// Reads the front of a file.
-ghost use Rattle.std.specs.Prelude.{◌≤◌, length, vec_len, IfOk};
+// Reads a file into a buffer that the caller lends.
+ghost use Rattle.std.specs.Prelude.{◌≤◌, length, IfOk};
 
-use std::alloc::AllocError;
 use std::io::Read;
 use std::rt::Files;
 use std::{fs, io};
@@ -11,7 +10,7 @@ fn fill<F: Read>(file: &mut F, buffer: &mut [u8]) -> io::Result<usize>
     ensures { IfOk result (λ n. n ≤ length buffer.old) }
 {
     let mut filled = 0;
-    // Stays: an error of `read_to_end` may be want of memory, which is passed on, or the file's own, which counts as empty.
+    // Stays: a file gives a piece at a time, and asks nothing of the heap this way.
     while filled < buffer.len() {
         let n = file.read(&mut buffer[filled..])?;
         if n == 0 {
@@ -22,19 +21,14 @@ fn fill<F: Read>(file: &mut F, buffer: &mut [u8]) -> io::Result<usize>
     Ok(filled)
 }
 
-// The front of a file, at most so many bytes. A file that cannot be opened or read counts as empty.
-pub(crate) fn front<R: Files + AllocGlobal>(
-    rt: &R,
-    path: &str,
-    most: usize,
-) -> Result<Vec<u8>, AllocError>
-    ensures { IfOk result (λ bytes. vec_len bytes ≤ most) }
+// Reads the front of a file, as much as the buffer holds, and answers how many bytes that is.
+// A file that cannot be opened or read counts as empty.
+// Stays: a buffer that is lent, since to ask the heap for these bytes may fail.
+pub(crate) fn read_file<R: Files>(rt: &R, path: &str, buffer: &mut [u8]) -> usize
+    ensures { result ≤ length buffer.old }
 {
-    let mut bytes = vec![in rt.alloc(); 0; most]?;
-    let n = match fs::open(rt, path) {
-        Ok(mut file) => fill(&mut file, bytes.as_mut_slice()).unwrap_or(0),
-        Err(_) => 0,
+    let Ok(mut file) = fs::open(rt, path) else {
+        return 0;
     };
-    bytes.truncate(n);
-    Ok(bytes)
+    fill(&mut file, buffer).unwrap_or(0)
 }

@@ -3,7 +3,7 @@
 #![tactic(auto)]
 
 use answers::files::{Refused, answer_files};
-use file_input::files::{rule_bytes, run_bytes};
+use file_input::files::{RUN_BYTES, SHEET_BYTES, rule_bytes, run_bytes};
 use file_input::folders::{Program, for_each_folder};
 use file_input::tell::tell_refusal;
 use gate::answer::Answer;
@@ -36,10 +36,12 @@ struct Gaterun;
 
 impl Program for Gaterun {
     fn account(&self, rt: &HostRuntime, folder: &str) -> anyhow::Result<()> {
-        let rule = rule_bytes(rt, folder)?;
-        let run = run_bytes(rt, folder)?;
+        let mut rule = [0; SHEET_BYTES];
+        let rule_len = rule_bytes(rt, folder, &mut rule)?;
+        let mut run = [0; RUN_BYTES];
+        let run_len = run_bytes(rt, folder, &mut run)?;
         let mut replies = [Reply::Answered(Answer::Declined); MOST_DEEDS];
-        match answer_files(rule.as_slice(), run.as_slice(), &mut replies) {
+        match answer_files(&rule[..rule_len], &run[..run_len], &mut replies) {
             Ok(account) => Ok(show(rt, &replies[..account.many])?),
             Err(refused) => Ok(refuse(rt, refused)?),
         }

@@ -1,5 +1,6 @@
 use action::call::Call;
 use action::deed::Deed;
+use action::kind::Kind;
 use action::partner::Partner;
 use fault::fault::Fault;
 use std::test::Fail;
@@ -154,6 +155,15 @@ fn out_of_range(rt: HostRuntime) -> Result<(), Fail> {
             Ok(())
         },
     }
+}
+
+#[test]
+fn shown_by_name(rt: HostRuntime) -> Result<(), Fail> {
+    let kind = format!(in rt.alloc(); "{:?}", Kind::new(31)?)?;
+    let partner = format!(in rt.alloc(); "{:?}", Partner::new(7)?)?;
+    assert_eq!(rt; kind.as_str(), "Kind { value: 31 }");
+    assert_eq!(rt; partner.as_str(), "Partner { value: 7 }");
+    Ok(())
 }
 
 #[test]

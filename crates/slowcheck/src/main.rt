@@ -250,12 +250,12 @@ fn drawn_runs(rt: &HostRuntime, files: usize) -> anyhow::Result<()> {
 }
 
 fn run(rt: &HostRuntime) -> anyhow::Result<()> {
+    numbers()?;
     drawn_sheets(rt, 12000, 9, Lists { most: 6 })?;
     drawn_sheets(rt, 500, 64, Lists { most: 4 })?;
     damaged_sheets(rt, 12000)?;
     tall_sheets(rt)?;
     drawn_runs(rt, 4000)?;
-    numbers()?;
     arguments()?;
     println!(rt; "arguments 15 and 16: held")?;
     no_places()?;

@@ -2,25 +2,34 @@
 use crate::edges::expect;
 use fault::fault::Fault;
 use gate::answer::Answer;
+use run_file::MOST_DEEDS;
 
+// The refusals that name no place.
 fn refusals_agree() -> bool {
     let promised = [
-        (Fault::SheetShort, (1, 0)),
-        (Fault::SheetHeader, (2, 0)),
-        (Fault::SheetLength, (3, 0)),
-        (Fault::FragmentKind(63), (4, 63)),
-        (Fault::FragmentRow(62), (5, 62)),
-        (Fault::FragmentTree(61), (6, 61)),
-        (Fault::StepCount, (7, 0)),
-        (Fault::EmptyNegative, (8, 0)),
-        (Fault::TranslationShape, (9, 0)),
-        (Fault::TranslationRow(60), (10, 60)),
-        (Fault::TranslationOrder(59), (11, 59)),
-        (Fault::ActionBytes(58), (12, 58)),
-        (Fault::OutOfRange, (13, 0)),
-        (Fault::RunShape, (14, 0)),
+        (Fault::SheetShort, 1),
+        (Fault::SheetHeader, 2),
+        (Fault::SheetLength, 3),
+        (Fault::StepCount, 7),
+        (Fault::EmptyNegative, 8),
+        (Fault::TranslationShape, 9),
+        (Fault::OutOfRange, 13),
+        (Fault::RunShape, 14),
     ];
-    promised.iter().all(|(fault, numbers)| (fault.number(), fault.place()) == *numbers)
+    promised.iter().all(|(fault, number)| (fault.number(), fault.place()) == (*number, 0))
+}
+
+// The refusals that name this place.
+fn placed_agree(at: usize) -> bool {
+    let promised = [
+        (Fault::FragmentKind(at), 4),
+        (Fault::FragmentRow(at), 5),
+        (Fault::FragmentTree(at), 6),
+        (Fault::TranslationRow(at), 10),
+        (Fault::TranslationOrder(at), 11),
+        (Fault::ActionBytes(at), 12),
+    ];
+    promised.iter().all(|(fault, number)| (fault.number(), fault.place()) == (*number, at))
 }
 
 fn answers_agree() -> bool {
@@ -35,8 +44,11 @@ fn answers_agree() -> bool {
         .all(|(answer, number)| answer.number() == *number)
 }
 
-/// Each refusal has its number and its place, and each answer its number.
+/// Each refusal has its number and its place, whatever place a file can name, and each answer its number.
 pub fn numbers() -> anyhow::Result<()> {
-    expect(refusals_agree(), "the numbers of refusals")?;
+    expect(
+        refusals_agree() && (0..MOST_DEEDS).all(placed_agree),
+        "the numbers of refusals",
+    )?;
     expect(answers_agree(), "the numbers of answers")
 }

@@ -1,5 +1,6 @@
 ghost use Rattle.std.specs.Prelude.{◌≡◌, ℕ, ◌*◌, ◌<◌, Ok, length, drop, zip, position, nat_le, slice_index_or, [], MatchResult};
-ghost use Rattle.fault.specs.Checks.{filled};
+ghost use Rattle.fault.specs.declared.fault.Fault.TheVariants.{TranslationRow};
+ghost use Rattle.fault.specs.Checks.{refuse_if, filled};
 ghost use Rattle.action.specs.declared.call.Call.{Call};
 ghost use Rattle.translation.specs.Tables.{image};
 ghost use Rattle.translation.specs.Files.{codes_of, rows_of, shape_check, four_of, row_wrong, rows_check, codes_check, row_at, table_of, translation_check, translation_of, file_image, ByItsRow};
@@ -61,17 +62,17 @@ impl<'a> Rows<'a> {
     }
 
     // Refusal 10, at the lowest row outside its ranges.
-    // Stays: a `match` of its own, as in the checks of a sheet.
     fn check_ranges(&self) -> Result<(), Fault>
         ensures { result ≡ rows_check self.now.codes.now self.now.rows.now }
     {
-        match first_outside(self.fours()) {
-            Some(i) => Err(Fault::TranslationRow(i)),
-            None => Ok(()),
+        for (i, four) in self.fours().iter().enumerate() {
+            check_row(four, i)?;
         }
+        Ok(())
     }
 
     // Refusal 11, at the lowest row whose code is not above the one before it.
+    // Stays: a `match` of its own, as in the checks of a sheet.
     fn check_order(&self) -> Result<(), Fault>
         ensures { result ≡ codes_check self.now.codes.now }
     {
@@ -105,16 +106,19 @@ impl<'a> Rows<'a> {
     }
 }
 
-// The first row outside its ranges.
-fn first_outside(fours: &[[u8; 4]]) -> Option<usize>
-    ensures { result ≡ position row_wrong fours.now }
+// Refusal 10, at row i, if these bytes of it are outside their ranges.
+fn check_row(four: &[u8; 4], i: usize) -> Result<(), Fault>
+    ensures { result ≡ refuse_if (TranslationRow i) (row_wrong four.now) }
 {
-    fours.iter().position(|[address, signal, first, second]| {
-        *address > HIGHEST_ADDRESS
-            || *signal > HIGHEST_KIND
-            || *first > HIGHEST_SELECTOR
-            || *second > HIGHEST_SELECTOR
-    })
+    let [address, signal, first, second] = four;
+    if *address > HIGHEST_ADDRESS
+        || *signal > HIGHEST_KIND
+        || *first > HIGHEST_SELECTOR
+        || *second > HIGHEST_SELECTOR
+    {
+        return Err(Fault::TranslationRow(i));
+    }
+    Ok(())
 }
 
 // The first code that is not below the next.

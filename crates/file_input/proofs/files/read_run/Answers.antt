@@ -1,8 +1,12 @@
-use Rattle.std.proofs.Common.{rules}
+use Rattle.std.proofs.Common.{arith, length-drop, length-take}
+use Rattle.std.specs.List.{between}
 use Rattle.file_input.proofs.files.read_run.Goals as goal
 
 pub returns : goal.returns
-returns g c = record {
-  read = (c.as_slice.result.now, search rules, c.load_run.ensures.verdict, c.load_run.ensures.place);
-  few = c.load_run.ensures.few;
-}
+returns g c =
+    let n = c.in_ok-n.n in
+    let b = between 0 n c.run_bytes.new.buffer in
+    record {
+      read = (b, simp (length-take, length-drop) (omega (arith, c.in_ok-n.ensures)), c.load_run.ensures.verdict, c.load_run.ensures.place);
+      few = c.load_run.ensures.few;
+    }

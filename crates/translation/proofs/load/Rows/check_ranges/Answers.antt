@@ -1,18 +1,25 @@
-use Rattle.std.proofs.Common.{◌≡◌, ℕ, ◌<◌, Some, None, Option, List, length, get_or, [], sym, ap, ◌∙◌, rules}
-use Rattle.std.specs.List.{position}
+use Rattle.std.proofs.Common.{sym, ap, ◌∙◌, arith}
+use Rattle.std.proofs.lemmas.Result.{err_from_is_err_and}
 use Rattle.fault.specs.declared.fault.Fault.TheVariants.{TranslationRow}
-use Rattle.fault.specs.Checks.{refuse_at, lowest}
-use Rattle.fault.proofs.Lowest.{refuse_in}
-use Rattle.translation.specs.Files.{four_of, row_wrong, rows_check}
+use Rattle.fault.proofs.Lowest.{lowest_none, lowest_more, refuse_found, refuse_passed}
+use Rattle.fault.proofs.Passed.{if_passed, if_stopped}
+use Rattle.translation.specs.Files.{row_wrong}
 use Rattle.translation.proofs.load.Rows.check_ranges.Goals as goal
 
-searched : (codes rows : List ℕ) (fours : List (List ℕ)) (o : Option ℕ) → length fours ≡ length codes → ((i : ℕ) → i < length fours → get_or fours i [] ≡ four_of rows i) → o ≡ position row_wrong fours → refuse_at (λ i. TranslationRow i) o ≡ rows_check codes rows
-searched codes rows fours o n each found =
-    refuse_in (λ i. TranslationRow i) (λ i. row_wrong (four_of rows i)) row_wrong fours [] o found (λ i l. ap row_wrong (sym (each i l)))
-    ∙ ap (λ m. refuse_at (λ i. TranslationRow i) (lowest (λ i. row_wrong (four_of rows i)) m)) n
+pub loop-i-init : goal.loop-i-init
+loop-i-init c = lowest_none _
 
-pub returns-in-Some : goal.returns-in-Some
-returns-in-Some c = searched _ _ _ (Some _) c.fours.ensures.count c.fours.ensures.each (search rules)
+pub loop-i-preserved : goal.loop-i-preserved
+loop-i-preserved c =
+    let same = c.fours-four-items.ensures.each c.loop-i.i c.loop-i-test.true in
+    lowest_more _ _ c.loop-i.invariant (ap row_wrong (sym same) ∙ if_passed (TranslationRow c.loop-i.i) _ c.in_ok-check_row.ensures)
 
-pub returns-in-None : goal.returns-in-None
-returns-in-None c = searched _ _ _ None c.fours.ensures.count c.fours.ensures.each (search rules)
+pub returns-in_err-check_row : goal.returns-in_err-check_row
+returns-in_err-check_row c =
+    let same = c.fours-four-items.ensures.each c.loop-i.i c.loop-i-test.true in
+    let p = err_from_is_err_and c.from_residual.result c.from_residual.ensures.1 in
+    let stop = if_stopped (TranslationRow c.loop-i.i) _ _ c.in_err-check_row.ensures in
+    rw (p.1, p.2, ← stop.1) (refuse_found (λ i. TranslationRow i) _ _ _ c.loop-i.invariant (ap row_wrong (sym same) ∙ stop.0) (omega (arith, c.loop-i-test.true, c.fours-four-items.ensures.count)))
+
+pub returns : goal.returns
+returns c = refuse_passed (λ i. TranslationRow i) _ _ _ c.loop-i.invariant (omega (arith, c.loop-i-test.false, c.fours-four-items.ensures.count)) (omega (arith, c.loop-i.auto.i-end, c.fours-four-items.ensures.count))
